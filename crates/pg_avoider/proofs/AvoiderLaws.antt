@@ -1,6 +1,17 @@
 -- Avoider's potential, where it holds, forces a win of Avoider.
-use Rattle.std.proofs.Common.{◌≡◌, ◌≢◌, ℕ, ◌+◌, ◌*◌, ◌<◌, ◌≤◌, Bool, true, false, ◌==◌, if◌then◌else◌, List, [], ◌∷◌, map, length, get_or, unwrap_or, eqb-true, eq-eqb, refl, sym, ap, ap₂, ◌∙◌, subst, inl, inr, ◌⊎◌, arith}
-use Rattle.pg_avoider.proofs.Common.{cases_Bool, cases_lt, false≢true, Contains, find, list_any, Win, AvoiderEnforcer, Switching, XWins, X, Y, Game, Position, is_free, point_count, bias_of, free_points, has_filled, is_filled, is_empty, is_full, is_over, outcome, outcome_by, short_joins, after, lines_of, IsPosition, x_takes_last, avoider_ends, avoider_total, avoider_weight, avoider_limit, AvoiderHolds, least, avoider_answer, reaches, Forces, length-free_points-after, first_free, free-member, member-free, member-within, few_points-lines}
+use Rattle.std.proofs.Common.{◌≡◌, ◌≢◌, ℕ, ◌+◌, ◌*◌, ◌<◌, ◌≤◌, Bool, true, false, ◌==◌}
+use Rattle.std.proofs.Common.{if◌then◌else◌, List, [], ◌∷◌, map, length, get_or, unwrap_or}
+use Rattle.std.proofs.Common.{eqb-true, eq-eqb, refl, sym, ap, ap₂, ◌∙◌, subst, inl, inr, ◌⊎◌}
+use Rattle.std.proofs.Common.{arith}
+use Rattle.pg_avoider.proofs.Common.{cases_Bool, cases_lt, false≢true, Contains, find, list_any}
+use Rattle.pg_avoider.proofs.Common.{Win, AvoiderEnforcer, Switching, XWins, X, Y, Game, Position}
+use Rattle.pg_avoider.proofs.Common.{is_free, point_count, bias_of, free_points, has_filled}
+use Rattle.pg_avoider.proofs.Common.{is_filled, is_empty, is_full, is_over, outcome, outcome_by}
+use Rattle.pg_avoider.proofs.Common.{short_joins, after, lines_of, IsPosition, x_takes_last}
+use Rattle.pg_avoider.proofs.Common.{avoider_ends, avoider_total, avoider_weight, avoider_limit}
+use Rattle.pg_avoider.proofs.Common.{AvoiderHolds, least, avoider_answer, reaches, Forces}
+use Rattle.pg_avoider.proofs.Common.{length-free_points-after, first_free, free-member, member-free}
+use Rattle.pg_avoider.proofs.Common.{member-within, few_points-lines}
 use Rattle.std.specs.FinSet.{FinSet}
 use Rattle.std.specs.Ordering.{nat_cmp}
 use Rattle.pg_base.specs.declared.kind.Kind.{Kind}
@@ -8,11 +19,14 @@ use Rattle.pg_base.specs.declared.side.Side.{Side}
 use Rattle.pg_base.specs.Side.{other}
 use Rattle.pg_game.specs.Potential.{total_weight, point_weight}
 use Rattle.pg_game.specs.Strategy.{Keeps}
-use Rattle.pg_game.proofs.Moves.{points_of-mover, points_of-waiter, turn-stays, left-falls, turn-passes, left-passes, turn-after_x, free-was, ShareNone-after, IsPosition-after}
+use Rattle.pg_game.proofs.Moves.{points_of-mover, points_of-waiter, turn-stays, left-falls}
+use Rattle.pg_game.proofs.Moves.{turn-passes, left-passes, turn-after_x, free-was, ShareNone-after}
+use Rattle.pg_game.proofs.Moves.{IsPosition-after}
 use Rattle.pg_game.proofs.Strategy.{Forces-from_keeps, free_point}
 use Rattle.pg_game.proofs.LineSums.{weight-le-total}
 use Rattle.pg_game.proofs.Unfilled.{unfilled-avoider}
-use Rattle.pg_game.proofs.LineWeights.{stand_once, total-grown, total-taken, weight-rises, unfilled-below}
+use Rattle.pg_game.proofs.LineWeights.{stand_once, total-grown, total-taken, weight-rises}
+use Rattle.pg_game.proofs.LineWeights.{unfilled-below}
 use Rattle.pg_game.proofs.Lowest.{find-some}
 use Rattle.pg_game.proofs.LastPoint.{last-within_turn, last-after_y, last-after_x, last-only}
 use Rattle.pg_avoider.proofs.Least.{least-le, least-at, least-same}

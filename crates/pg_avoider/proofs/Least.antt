@@ -1,6 +1,10 @@
 -- The least of the values of a function at the members of a list.
-use Rattle.std.proofs.Common.{◌≡◌, ℕ, zero, suc, ◌+◌, ◌<◌, ◌≤◌, min, Bool, true, false, if◌then◌else◌, List, [], ◌∷◌, map, refl, sym, ap, ◌∙◌, inl, inr, arith}
-use Rattle.pg_avoider.proofs.Common.{cases_lt, cases_eq, cases_Bool, Contains, Game, Position, is_free, point_count, free_points, is_full, least, first_free, free-member, member-free, member-within}
+use Rattle.std.proofs.Common.{◌≡◌, ℕ, zero, suc, ◌+◌, ◌<◌, ◌≤◌, min, Bool, true, false}
+use Rattle.std.proofs.Common.{if◌then◌else◌, List, [], ◌∷◌, map, refl, sym, ap, ◌∙◌, inl, inr}
+use Rattle.std.proofs.Common.{arith}
+use Rattle.pg_avoider.proofs.Common.{cases_lt, cases_eq, cases_Bool, Contains, Game, Position}
+use Rattle.pg_avoider.proofs.Common.{is_free, point_count, free_points, is_full, least, first_free}
+use Rattle.pg_avoider.proofs.Common.{free-member, member-free, member-within}
 use Rattle.pg_game.proofs.Members.{Contains-head, Contains-tail}
 
 pub least-le : (f : ℕ → ℕ) (xs : List ℕ) (x : ℕ) → Contains xs x → least (map f xs) ≤ f x

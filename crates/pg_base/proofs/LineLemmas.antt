@@ -1,6 +1,11 @@
 -- Points in order, and points that stand twice.
-use Rattle.std.proofs.Common.{◌≡◌, ℕ, zero, suc, ◌+◌, ◌<◌, ◌≤◌, ◌==◌, true, false, cond, List, [], ◌∷◌, length, get_or, ltb, refl, sym, ap, subst, arith, Bool, ne_eqb, inl, inr, eq-eqb, ltb-true, ltb-false}
-use Rattle.pg_base.proofs.Common.{get_or-le-sum_by, sum_by-cons, sum_by-IsPermutation, AllPairs-from_increasing, cases_eq, All, AllPairs, count_by, AllAdjacentBelow, IsPermutation, IsSorted, IsStrictlyIncreasing, nat_cmp, is_lt, nat_tests}
+use Rattle.std.proofs.Common.{◌≡◌, ℕ, zero, suc, ◌+◌, ◌<◌, ◌≤◌, ◌==◌, true, false, cond, List, []}
+use Rattle.std.proofs.Common.{◌∷◌, length, get_or, ltb, refl, sym, ap, subst, arith, Bool, ne_eqb}
+use Rattle.std.proofs.Common.{inl, inr, eq-eqb, ltb-true, ltb-false}
+use Rattle.pg_base.proofs.Common.{get_or-le-sum_by, sum_by-cons, sum_by-IsPermutation}
+use Rattle.pg_base.proofs.Common.{AllPairs-from_increasing, cases_eq, All, AllPairs, count_by}
+use Rattle.pg_base.proofs.Common.{AllAdjacentBelow, IsPermutation, IsSorted, IsStrictlyIncreasing}
+use Rattle.pg_base.proofs.Common.{nat_cmp, is_lt, nat_tests}
 use Rattle.pg_base.specs.Line.{StandsTwice}
 
 not_below : (a b : ℕ) → is_lt (nat_cmp b a) ≡ false → a ≤ b

@@ -1,7 +1,14 @@
 -- The members of a set in ascending order.
-use Rattle.std.proofs.Common.{◌≡◌, ◌≢◌, ℕ, zero, suc, ◌+◌, ◌<◌, ◌≤◌, Bool, true, false, ◌&&◌, List, [], ◌∷◌, ◌++◌, length, add-one, refl, sym, ap, ◌∙◌, arith, ltb, inl, inr}
+use Rattle.std.proofs.Common.{◌≡◌, ◌≢◌, ℕ, zero, suc, ◌+◌, ◌<◌, ◌≤◌, Bool, true, false, ◌&&◌, List}
+use Rattle.std.proofs.Common.{[], ◌∷◌, ◌++◌, length, add-one, refl, sym, ap, ◌∙◌, arith, ltb, inl}
+use Rattle.std.proofs.Common.{inr}
 use Rattle.std.specs.Prelude.{nat_lt, nat_eq, nat_le, filter}
-use Rattle.pg_base.proofs.Common.{list_any, range_with_len, AllByRecursion, IsStrictlyIncreasing, FinSet, contains, from_list, contains-from_list_nat, nat_cmp, cases_Bool, cases_eq, eq-eqb, ne_eqb, and_right, nat_tests, append-nil, length-filter, count_by-le-length, IsStrictlyIncreasing-filter, length-range_with_len, get_or-range_with_len}
+use Rattle.pg_base.proofs.Common.{list_any, range_with_len, AllByRecursion, IsStrictlyIncreasing}
+use Rattle.pg_base.proofs.Common.{FinSet, contains, from_list, contains-from_list_nat, nat_cmp}
+use Rattle.pg_base.proofs.Common.{cases_Bool, cases_eq, eq-eqb, ne_eqb, and_right, nat_tests}
+use Rattle.pg_base.proofs.Common.{append-nil, length-filter, count_by-le-length}
+use Rattle.pg_base.proofs.Common.{IsStrictlyIncreasing-filter, length-range_with_len}
+use Rattle.pg_base.proofs.Common.{get_or-range_with_len}
 use Rattle.pg_base.specs.Points.{points_below, one_where, AreBelow}
 use Rattle.pg_base.specs.WordLemmas.{same_points}
 

@@ -1,6 +1,9 @@
 -- Sets that are filled point by point: from a list, or with all points below a number.
-use Rattle.std.proofs.Common.{◌≡◌, ℕ, ◌+◌, ◌<◌, ◌≤◌, ◌||◌, ◌==◌, eqb, ltb, List, [], ◌∷◌, length, take, get_or, sym, ap, ap₂, ◌∙◌, inl, inr, arith, eq-eqb, ne_eqb}
-use Rattle.pg_base.proofs.Common.{cases_eq, le-ltb, nat_tests, take_more, take_all, list_any, FinSet, contains, insert, empty, from_list, from_list_push, contains-empty, nat_cmp-IsAntisymmetric, nat_cmp, nat_cmp_total}
+use Rattle.std.proofs.Common.{◌≡◌, ℕ, ◌+◌, ◌<◌, ◌≤◌, ◌||◌, ◌==◌, eqb, ltb, List, [], ◌∷◌, length}
+use Rattle.std.proofs.Common.{take, get_or, sym, ap, ap₂, ◌∙◌, inl, inr, arith, eq-eqb, ne_eqb}
+use Rattle.pg_base.proofs.Common.{cases_eq, le-ltb, nat_tests, take_more, take_all, list_any}
+use Rattle.pg_base.proofs.Common.{FinSet, contains, insert, empty, from_list, from_list_push}
+use Rattle.pg_base.proofs.Common.{contains-empty, nat_cmp-IsAntisymmetric, nat_cmp, nat_cmp_total}
 use Rattle.pg_base.specs.WordLemmas.{in_insert}
 
 -- the set of one more point of the list

@@ -1,6 +1,12 @@
 -- Sets of points a row of 64 at a time: a word's bits are the points of its row.
-use Rattle.std.proofs.Common.{◌≡◌, ◌≢◌, ℕ, ◌+◌, ◌*◌, ◌/◌, ◌%◌, ◌^◌, ◌<◌, ◌≤◌, ◌-◌, Bool, true, false, not, ◌&&◌, ◌||◌, List, get_or, nat_eq, bit_and, bit_or, refl, sym, ap, subst, ◌∙◌, inl, inr, ◌⊎◌, arith, w64, lt-ltb, min, max, lit<}
-use Rattle.pg_base.proofs.Common.{cases_lt, both_ways, and_le_l, pow-add, div-div-eq-div-mul, div-le_self, bit_at-lt, bit_at-zero, bit_at_and, bit_at_or, bit_at_not, bit_at_above, bit_at-trailing_zeros, same_from_bits_below, bit_at, bit_not, trailing_zeros, contains}
+use Rattle.std.proofs.Common.{◌≡◌, ◌≢◌, ℕ, ◌+◌, ◌*◌, ◌/◌, ◌%◌, ◌^◌, ◌<◌, ◌≤◌, ◌-◌, Bool, true}
+use Rattle.std.proofs.Common.{false, not, ◌&&◌, ◌||◌, List, get_or, nat_eq, bit_and, bit_or, refl}
+use Rattle.std.proofs.Common.{sym, ap, subst, ◌∙◌, inl, inr, ◌⊎◌, arith, w64, lt-ltb, min, max}
+use Rattle.std.proofs.Common.{lit<}
+use Rattle.pg_base.proofs.Common.{cases_lt, both_ways, and_le_l, pow-add, div-div-eq-div-mul}
+use Rattle.pg_base.proofs.Common.{div-le_self, bit_at-lt, bit_at-zero, bit_at_and, bit_at_or}
+use Rattle.pg_base.proofs.Common.{bit_at_not, bit_at_above, bit_at-trailing_zeros}
+use Rattle.pg_base.proofs.Common.{same_from_bits_below, bit_at, bit_not, trailing_zeros, contains}
 use Rattle.pg_base.specs.Words.{has_bit, members_below, AreWords}
 use Rattle.pg_base.specs.WordLemmas.{in_members_below, has_bit-at, members-beyond}
 use Rattle.pg_base.specs.Points.{IsLeastFrom, AreBelow, ShareNone, AreWithin}

@@ -1,6 +1,9 @@
 -- Members of sets that are tests, and their counts.
-use Rattle.std.proofs.Common.{◌≡◌, ℕ, Bool, true, false, not, ◌&&◌, ◌||◌, eqb, ◌⊎◌, inl, inr, refl, arith, sym, ◌≢◌, ◌<◌, ◌≤◌, ◌+◌, suc, zero, ap, subst}
-use Rattle.std.proofs.lemmas.Bool.{and_parts, or_cases, and_from, eqb-true, eqb-false, eq-eqb, ne_eqb, not-true, not_from_false, or_left, or_right, cases_Bool, cases_eq}
+use Rattle.std.proofs.Common.{◌≡◌, ℕ, Bool, true, false, not, ◌&&◌, ◌||◌, eqb, ◌⊎◌, inl, inr, refl}
+use Rattle.std.proofs.Common.{arith, sym, ◌≢◌, ◌<◌, ◌≤◌, ◌+◌, suc, zero, ap, subst}
+use Rattle.std.proofs.lemmas.Bool.{and_parts, or_cases, and_from, eqb-true, eqb-false, eq-eqb}
+use Rattle.std.proofs.lemmas.Bool.{ne_eqb, not-true, not_from_false, or_left, or_right, cases_Bool}
+use Rattle.std.proofs.lemmas.Bool.{cases_eq}
 use Rattle.pg_base.specs.Sets.{plus, minus, both, either, outside, count, one_if}
 
 pub plus_same : (a : ℕ → Bool) (x z : ℕ) → x ≢ z → plus a x z ≡ a z

@@ -1,7 +1,8 @@
 -- Sets of points that are equal, and what is hashed of one.
 use Rattle.std.specs.Prelude.{◌≡◌, ℕ, Bool, true, ◌&&◌, List, ◌∷◌, length}
 use Rattle.std.proofs.Common.{sym, ap, ◌∙◌, subst, inl, inr}
-use Rattle.pg_base.specs.Prelude.{flat_map, nat_cmp, IsEquivalence, IsPartialEquivalence, decided, partial_equiv_from_equiv, nat_cmp_total}
+use Rattle.pg_base.specs.Prelude.{flat_map, nat_cmp, IsEquivalence, IsPartialEquivalence, decided}
+use Rattle.pg_base.specs.Prelude.{partial_equiv_from_equiv, nat_cmp_total}
 use Rattle.std.specs.Bool.{Decides}
 use Rattle.std.specs.Hash.{le_bytes}
 use Rattle.std.specs.Hash as fed

@@ -1,6 +1,7 @@
 -- Sets of numbers as tests: one member more or less, both, either, outside, and how many there are
 -- below a number.
-use Rattle.std.specs.Prelude.{◌≡◌, ℕ, ◌+◌, Bool, true, false, not, ◌&&◌, ◌||◌, ◌==◌, ◌<◌, zero, suc, nat_lt, List, slice_get, Some}
+use Rattle.std.specs.Prelude.{◌≡◌, ℕ, ◌+◌, Bool, true, false, not, ◌&&◌, ◌||◌, ◌==◌, ◌<◌, zero, suc}
+use Rattle.std.specs.Prelude.{nat_lt, List, slice_get, Some}
 
 -- the set with one more member
 unfoldable pub plus : (ℕ → Bool) → ℕ → ℕ → Bool

@@ -1,12 +1,22 @@
 -- The bits of words and the sets that they stand for.
-use Rattle.std.proofs.Common.{◌≡◌, ◌≢◌, ℕ, zero, suc, ◌+◌, ◌*◌, ◌/◌, ◌%◌, ◌^◌, ◌<◌, ◌≤◌, ◌-◌, Bool, true, false, cond, not, ◌&&◌, ◌||◌, List, length, get_or, set, nat_eq, ltb, eqb, bit_and, bit_or, refl, sym, ap, ◌∙◌, inl, inr, arith, w64, ext_get_or, get_or-set_same, get_or-set_other, length-set, eq-eqb, ne_eqb, lt-ltb, le-ltb, pow_pos, pow-suc, mod-lt, lit<, replicate, count_ones, add_comm, le_refl, mod-eq_of_lt}
-use Rattle.pg_base.specs.Prelude.{bit_at, bit_not, nat_cmp, nat_cmp_total, unsigned_tied, FinSet, empty, insert, remove, contains, contains-empty, contains-insert, contains-remove, same_set, len, len-insert, len-empty, nat_cmp-IsAntisymmetric}
+use Rattle.std.proofs.Common.{◌≡◌, ◌≢◌, ℕ, zero, suc, ◌+◌, ◌*◌, ◌/◌, ◌%◌, ◌^◌, ◌<◌, ◌≤◌, ◌-◌, Bool}
+use Rattle.std.proofs.Common.{true, false, cond, not, ◌&&◌, ◌||◌, List, length, get_or, set, nat_eq}
+use Rattle.std.proofs.Common.{ltb, eqb, bit_and, bit_or, refl, sym, ap, ◌∙◌, inl, inr, arith, w64}
+use Rattle.std.proofs.Common.{ext_get_or, get_or-set_same, get_or-set_other, length-set, eq-eqb}
+use Rattle.std.proofs.Common.{ne_eqb, lt-ltb, le-ltb, pow_pos, pow-suc, mod-lt, lit<, replicate}
+use Rattle.std.proofs.Common.{count_ones, add_comm, le_refl, mod-eq_of_lt}
+use Rattle.pg_base.specs.Prelude.{bit_at, bit_not, nat_cmp, nat_cmp_total, unsigned_tied, FinSet}
+use Rattle.pg_base.specs.Prelude.{empty, insert, remove, contains, contains-empty, contains-insert}
+use Rattle.pg_base.specs.Prelude.{contains-remove, same_set, len, len-insert, len-empty}
+use Rattle.pg_base.specs.Prelude.{nat_cmp-IsAntisymmetric}
 use Rattle.std.proofs.lemmas.Bool.{cases_Bool, cases_eq, cases_lt, and_right}
 use Rattle.std.proofs.lemmas.Grind.{common_steps}
 use Rattle.std.proofs.lemmas.Nat.{or_lt, mod-pow-add, ones_cat}
 use Rattle.std.proofs.Math.Nat.{mod-one}
 use Rattle.std.proofs.lemmas.Bool.Decides.{nat_tests}
-use Rattle.std.proofs.lemmas.Nat.Bits.{bit_at_set_same, bit_at_set_other, bit_at_clear_same, bit_at_clear_other, bit_at_cat_low, bit_at_cat_high, bit_at-lt, same_from_bits_below, bit_at-zero, shr_and_one}
+use Rattle.std.proofs.lemmas.Nat.Bits.{bit_at_set_same, bit_at_set_other, bit_at_clear_same}
+use Rattle.std.proofs.lemmas.Nat.Bits.{bit_at_clear_other, bit_at_cat_low, bit_at_cat_high}
+use Rattle.std.proofs.lemmas.Nat.Bits.{bit_at-lt, same_from_bits_below, bit_at-zero, shr_and_one}
 use Rattle.std.proofs.lemmas.List.FromFn.{get_or-map-range_with_len, length-map-range_with_len}
 use Rattle.std.specs.Int.Count.{ones, ones_in}
 use Rattle.pg_base.specs.Points.{AreBelow}

@@ -1,10 +1,15 @@
 -- What a board that fits answers.
-use Rattle.std.proofs.Common.{◌≡◌, ◌≢◌, ℕ, zero, suc, ◌+◌, ◌<◌, ◌≤◌, Bool, true, false, not, ◌||◌, List, [], ◌∷◌, length, get_or, eqb, refl, sym, ap, ◌∙◌, arith, inl, inr, subst}
+use Rattle.std.proofs.Common.{◌≡◌, ◌≢◌, ℕ, zero, suc, ◌+◌, ◌<◌, ◌≤◌, Bool, true, false, not, ◌||◌}
+use Rattle.std.proofs.Common.{List, [], ◌∷◌, length, get_or, eqb, refl, sym, ap, ◌∙◌, arith, inl}
+use Rattle.std.proofs.Common.{inr, subst}
 use Rattle.std.specs.Prelude.{slice_get, IfSome}
-use Rattle.pg_board.proofs.Common.{cases_Bool, ne_eqb, Contains-append_right, count_by, find, list_any, Contains, contains, insert, one_if, Side, X, Y, is_free, points_of, present, first_of_all, Cells}
+use Rattle.pg_board.proofs.Common.{cases_Bool, ne_eqb, Contains-append_right, count_by, find}
+use Rattle.pg_board.proofs.Common.{list_any, Contains, contains, insert, one_if, Side, X, Y}
+use Rattle.pg_board.proofs.Common.{is_free, points_of, present, first_of_all, Cells}
 use Rattle.pg_board.specs.Shape.{Shape, line_in}
 use Rattle.pg_board.specs.Counts.{count_in, is_clear, clear_lines}
-use Rattle.pg_board.specs.Fits.{Rules, Fits, pick, live_lines_in, free_points_in, position_of, has_mark, set_below, turn_of, left_of}
+use Rattle.pg_board.specs.Fits.{Rules, Fits, pick, live_lines_in, free_points_in, position_of}
+use Rattle.pg_board.specs.Fits.{has_mark, set_below, turn_of, left_of}
 use Rattle.pg_board.proofs.Ranges.{filter-same, count-cons, filtered-below}
 
 -- ---- lines without a point

@@ -1,13 +1,24 @@
 -- The board of the empty position.
-use Rattle.std.proofs.Common.{◌≡◌, ◌≢◌, ℕ, ◌+◌, ◌^◌, ◌<◌, ◌≤◌, Bool, true, false, ◌&&◌, List, [], ◌∷◌, length, get_or, set, replicate, eqb, refl, sym, ap, ◌∙◌, arith, inl, inr, subst, length-append}
-use Rattle.pg_board.proofs.Common.{cases_Bool, cases_eq, cases_lt, eq-eqb, ne_eqb, le-ltb, and_left, and_right, get_or-set_same, get_or-set_other, length-set, get_or-replicate, length-replicate, length-filter, count_by, filter, range_with_len, contains, one_if, Side, X, Y, Position, is_free, points_of, present, Cells}
-use Rattle.pg_board.specs.Shape.{Shape, IsShape, line_in, mark_cell, count_cell, free_cell, cell_count}
-use Rattle.pg_board.specs.Counts.{count_in, lines_in, lines_with, has_free, is_clear, clear_lines, free_by}
-use Rattle.pg_board.specs.Fits.{Rules, pick, has_mark, mark_of, position_of, entries_of, free_points_in}
+use Rattle.std.proofs.Common.{◌≡◌, ◌≢◌, ℕ, ◌+◌, ◌^◌, ◌<◌, ◌≤◌, Bool, true, false, ◌&&◌, List, []}
+use Rattle.std.proofs.Common.{◌∷◌, length, get_or, set, replicate, eqb, refl, sym, ap, ◌∙◌, arith}
+use Rattle.std.proofs.Common.{inl, inr, subst, length-append}
+use Rattle.pg_board.proofs.Common.{cases_Bool, cases_eq, cases_lt, eq-eqb, ne_eqb, le-ltb, and_left}
+use Rattle.pg_board.proofs.Common.{and_right, get_or-set_same, get_or-set_other, length-set}
+use Rattle.pg_board.proofs.Common.{get_or-replicate, length-replicate, length-filter, count_by}
+use Rattle.pg_board.proofs.Common.{filter, range_with_len, contains, one_if, Side, X, Y, Position}
+use Rattle.pg_board.proofs.Common.{is_free, points_of, present, Cells}
+use Rattle.pg_board.specs.Shape.{Shape, IsShape, line_in, mark_cell, count_cell, free_cell}
+use Rattle.pg_board.specs.Shape.{cell_count}
+use Rattle.pg_board.specs.Counts.{count_in, lines_in, lines_with, has_free, is_clear, clear_lines}
+use Rattle.pg_board.specs.Counts.{free_by}
+use Rattle.pg_board.specs.Fits.{Rules, pick, has_mark, mark_of, position_of, entries_of}
+use Rattle.pg_board.specs.Fits.{free_points_in}
 use Rattle.pg_board.specs.Opening.{AreBlank, Opens, whole_room}
 use Rattle.pg_board.specs.declared.rings.Rings.{Rings}
-use Rattle.pg_board.proofs.CellPlaces.{mark_cell-is, mark-within, count_cell-high, free_cell-low, free_cell-within, free_cell-apart, free_cell-sides}
-use Rattle.pg_board.proofs.Ranges.{filter-same, count-same, count-cons, count-few, filter-on, filter-off}
+use Rattle.pg_board.proofs.CellPlaces.{mark_cell-is, mark-within, count_cell-high, free_cell-low}
+use Rattle.pg_board.proofs.CellPlaces.{free_cell-within, free_cell-apart, free_cell-sides}
+use Rattle.pg_board.proofs.Ranges.{filter-same, count-same, count-cons, count-few, filter-on}
+use Rattle.pg_board.proofs.Ranges.{filter-off}
 use Rattle.pg_board.proofs.Decoding.{has-points}
 use Rattle.pg_board.proofs.Positions.{summed-same}
 

@@ -1,10 +1,15 @@
 -- One more point of a side in one line.
-use Rattle.std.proofs.Common.{◌≡◌, ◌≢◌, ℕ, ◌+◌, ◌-◌, ◌<◌, ◌≤◌, true, false, ◌&&◌, List, length, set, eqb, refl, sym, ap, ◌∙◌, arith, inl, inr, ◌⊎◌}
+use Rattle.std.proofs.Common.{◌≡◌, ◌≢◌, ℕ, ◌+◌, ◌-◌, ◌<◌, ◌≤◌, true, false, ◌&&◌, List, length, set}
+use Rattle.std.proofs.Common.{eqb, refl, sym, ap, ◌∙◌, arith, inl, inr, ◌⊎◌}
 use Rattle.std.proofs.Common.{[]}
-use Rattle.pg_board.proofs.Common.{cases_eq, eq-eqb, ne_eqb, and_from, get_or-set_same, get_or-set_other, length-set, Side, X, Y, other, one_if, is_same_side}
+use Rattle.pg_board.proofs.Common.{cases_eq, eq-eqb, ne_eqb, and_from, get_or-set_same}
+use Rattle.pg_board.proofs.Common.{get_or-set_other, length-set, Side, X, Y, other, one_if}
+use Rattle.pg_board.proofs.Common.{is_same_side}
 use Rattle.pg_board.specs.Shape.{IsShape, Shape, line_in, count_cell, free_cell, cell_count}
-use Rattle.pg_board.specs.Counts.{AreCounted, IsCountedMore, IsMoved, lines_in, count_in, lines_with, has_free, free_by}
-use Rattle.pg_board.proofs.CellPlaces.{count_cell-low, count_cell-high, count_cell-within, count_cell-apart, count_cell-sides, free_cell-low}
+use Rattle.pg_board.specs.Counts.{AreCounted, IsCountedMore, IsMoved, lines_in, count_in}
+use Rattle.pg_board.specs.Counts.{lines_with, has_free, free_by}
+use Rattle.pg_board.proofs.CellPlaces.{count_cell-low, count_cell-high, count_cell-within}
+use Rattle.pg_board.proofs.CellPlaces.{count_cell-apart, count_cell-sides, free_cell-low}
 use Rattle.pg_board.proofs.Ranges.{count-one, count-some, count-few}
 
 -- the counts of both sides in a line, whichever side comes first

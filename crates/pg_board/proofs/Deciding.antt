@@ -1,12 +1,19 @@
 -- Whether a potential decides, and whether the game is over, by counts.
-use Rattle.std.proofs.Common.{◌≡◌, ℕ, zero, suc, ◌+◌, ◌-◌, ◌*◌, ◌^◌, ◌<◌, ◌≤◌, Bool, true, false, not, ◌&&◌, List, [], ◌∷◌, Option, length, get_or, eqb, nat_lt, if◌then◌else◌, refl, sym, ap, ◌∙◌, arith, inl, inr}
+use Rattle.std.proofs.Common.{◌≡◌, ℕ, zero, suc, ◌+◌, ◌-◌, ◌*◌, ◌^◌, ◌<◌, ◌≤◌, Bool, true, false}
+use Rattle.std.proofs.Common.{not, ◌&&◌, List, [], ◌∷◌, Option, length, get_or, eqb, nat_lt}
+use Rattle.std.proofs.Common.{if◌then◌else◌, refl, sym, ap, ◌∙◌, arith, inl, inr}
 use Rattle.std.specs.Prelude.{slice_get}
-use Rattle.pg_board.proofs.Common.{cases_Bool, ne_eqb, le-ltb, lt-ltb, and_right, false≢true, count_by, filter, range_with_len, list_all, list_any, contains, ShareNone, one_if, Side, X, Y, other, Position, is_free, points_of, is_touched, is_filled, is_empty, is_same_side, x_takes_last}
+use Rattle.pg_board.proofs.Common.{cases_Bool, ne_eqb, le-ltb, lt-ltb, and_right, false≢true}
+use Rattle.pg_board.proofs.Common.{count_by, filter, range_with_len, list_all, list_any, contains}
+use Rattle.pg_board.proofs.Common.{ShareNone, one_if, Side, X, Y, other, Position, is_free}
+use Rattle.pg_board.proofs.Common.{points_of, is_touched, is_filled, is_empty, is_same_side}
+use Rattle.pg_board.proofs.Common.{x_takes_last}
 use Rattle.std.specs.Option.{is_some}
 use Rattle.pg_board.specs.Shape.{Shape, turn_cell, line_in}
 use Rattle.pg_board.specs.Fits.{Rules, position_of, turn_of, left_of, live_lines_in, free_points_in}
 use Rattle.pg_board.specs.Board.{is_live_with}
-use Rattle.pg_board.specs.Totals.{live_with_in, total_in, greatest_in, times_in, potential_in, risk_in, avoider_in, Agree}
+use Rattle.pg_board.specs.Totals.{live_with_in, total_in, greatest_in, times_in, potential_in}
+use Rattle.pg_board.specs.Totals.{risk_in, avoider_in, Agree}
 use Rattle.pg_board.proofs.CellPlaces.{mark-within}
 use Rattle.pg_board.proofs.Ranges.{count-cons}
 use Rattle.pg_board.proofs.Walks.{disjoint-is}

@@ -1,6 +1,11 @@
 -- The position that the cells say.
-use Rattle.std.proofs.Common.{◌≡◌, ◌≢◌, ℕ, zero, suc, ◌-◌, ◌<◌, ◌≤◌, Bool, true, false, not, ◌&&◌, List, get_or, eqb, ltb, refl, sym, ap, ◌∙◌, arith, inl, inr}
-use Rattle.pg_board.proofs.Common.{cases_Bool, cases_eq, cases_lt, eq-eqb, ne_eqb, eqb-true, lt-ltb, le-ltb, and_parts, and_left, false≢true, empty, insert, contains, contains-empty, nat_cmp, in_insert, same_points, Side, X, Y, Position, is_free, points_of, after_with, x_after, y_after, turn_after, left_after}
+use Rattle.std.proofs.Common.{◌≡◌, ◌≢◌, ℕ, zero, suc, ◌-◌, ◌<◌, ◌≤◌, Bool, true, false, not, ◌&&◌}
+use Rattle.std.proofs.Common.{List, get_or, eqb, ltb, refl, sym, ap, ◌∙◌, arith, inl, inr}
+use Rattle.pg_board.proofs.Common.{cases_Bool, cases_eq, cases_lt, eq-eqb, ne_eqb, eqb-true, lt-ltb}
+use Rattle.pg_board.proofs.Common.{le-ltb, and_parts, and_left, false≢true, empty, insert, contains}
+use Rattle.pg_board.proofs.Common.{contains-empty, nat_cmp, in_insert, same_points, Side, X, Y}
+use Rattle.pg_board.proofs.Common.{Position, is_free, points_of, after_with, x_after, y_after}
+use Rattle.pg_board.proofs.Common.{turn_after, left_after}
 use Rattle.pg_board.specs.Shape.{Shape, turn_cell, mark_cell}
 use Rattle.pg_board.specs.Fits.{mark_of, has_mark, set_below, turn_of, left_of, position_of}
 use Rattle.pg_board.specs.Points.{next_turn}

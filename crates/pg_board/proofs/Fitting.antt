@@ -1,11 +1,21 @@
 -- A board that fits its position does so after a play.
-use Rattle.std.proofs.Common.{◌≡◌, ◌≢◌, ℕ, ◌+◌, ◌-◌, ◌*◌, ◌<◌, ◌≤◌, true, false, ◌&&◌, List, [], ◌∷◌, length, get_or, set, take, eqb, refl, sym, ap, ◌∙◌, arith, inl, inr, subst}
-use Rattle.pg_board.proofs.Common.{cases_eq, eq-eqb, ne_eqb, and_right, get_or-set_same, get_or-set_other, length-set, length_push, take_all, take_at, Contains, contains, one_if, Side, X, Y, other, is_same_side, is_free, points_of, after_with, is_on, present, without, Cells, with_set, back_to, Extends, extends-set, extends-both, extends-back}
-use Rattle.pg_board.specs.Shape.{Shape, line_in, lines_through, degree_in, turn_cell, mark_cell, count_cell, free_cell, cell_count}
+use Rattle.std.proofs.Common.{◌≡◌, ◌≢◌, ℕ, ◌+◌, ◌-◌, ◌*◌, ◌<◌, ◌≤◌, true, false, ◌&&◌, List, []}
+use Rattle.std.proofs.Common.{◌∷◌, length, get_or, set, take, eqb, refl, sym, ap, ◌∙◌, arith, inl}
+use Rattle.std.proofs.Common.{inr, subst}
+use Rattle.pg_board.proofs.Common.{cases_eq, eq-eqb, ne_eqb, and_right, get_or-set_same}
+use Rattle.pg_board.proofs.Common.{get_or-set_other, length-set, length_push, take_all, take_at}
+use Rattle.pg_board.proofs.Common.{Contains, contains, one_if, Side, X, Y, other, is_same_side}
+use Rattle.pg_board.proofs.Common.{is_free, points_of, after_with, is_on, present, without, Cells}
+use Rattle.pg_board.proofs.Common.{with_set, back_to, Extends, extends-set, extends-both}
+use Rattle.pg_board.proofs.Common.{extends-back}
+use Rattle.pg_board.specs.Shape.{Shape, line_in, lines_through, degree_in, turn_cell, mark_cell}
+use Rattle.pg_board.specs.Shape.{count_cell, free_cell, cell_count}
 use Rattle.pg_board.specs.Counts.{AreCounted, count_in, lines_with, is_clear, clear_lines}
 use Rattle.pg_board.specs.Lines.{clear_in}
 use Rattle.pg_board.specs.Points.{ClaimsPoint, next_turn}
-use Rattle.pg_board.specs.Fits.{Rules, Fits, AreFit, IsPlayed, PlaysBack, Leads, pick, fewer, left_by, mark_of, turn_of, position_of, summed, entries_of, free_points_in, held_in}
+use Rattle.pg_board.specs.Fits.{Rules, Fits, AreFit, IsPlayed, PlaysBack, Leads, pick, fewer}
+use Rattle.pg_board.specs.Fits.{left_by, mark_of, turn_of, position_of, summed, entries_of}
+use Rattle.pg_board.specs.Fits.{free_points_in, held_in}
 use Rattle.pg_board.specs.declared.plays.Played.{Played}
 use Rattle.pg_board.proofs.CellPlaces.{mark_cell-is, mark-within, count_cell-low, free_cell-low}
 use Rattle.pg_board.proofs.Claiming.{same_side, is_own, is_others}
@@ -13,7 +23,8 @@ use Rattle.pg_board.proofs.Ranges.{filter-same}
 use Rattle.pg_board.proofs.LineSteps.{present-push}
 use Rattle.pg_board.proofs.Through.{through-any}
 use Rattle.pg_board.proofs.Decoding.{has-points, one_mark, no_mark, Marked, position-after, turn-of}
-use Rattle.pg_board.proofs.Positions.{free-without, free-other, free-gone, summed-without, count-after, three-few, some-at, one-fewer, free-member}
+use Rattle.pg_board.proofs.Positions.{free-without, free-other, free-gone, summed-without}
+use Rattle.pg_board.proofs.Positions.{count-after, three-few, some-at, one-fewer, free-member}
 
 -- ---- cells beyond the marks
 

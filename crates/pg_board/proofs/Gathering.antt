@@ -1,6 +1,13 @@
 -- The lines through each point, gathered line by line.
-use Rattle.std.proofs.Common.{◌≡◌, ℕ, ◌+◌, ◌<◌, Bool, true, false, ◌||◌, List, [], ◌∷◌, ◌++◌, length, get_or, set, take, map, replicate, eqb, if◌then◌else◌, refl, sym, ap, ◌∙◌, arith, inl, inr}
-use Rattle.pg_board.proofs.Common.{cases_Bool, cases_eq, eq-eqb, ne_eqb, get_or-set_same, get_or-set_other, length-set, take_more, take_all, append-nil, same_lists, get_or_default, get_or-replicate, length-replicate, length-map-range_with_len, get_or-map-range_with_len, list_any-append, filter, range_with_len, IsStrictlyIncreasing, is_on}
+use Rattle.std.proofs.Common.{◌≡◌, ℕ, ◌+◌, ◌<◌, Bool, true, false, ◌||◌, List, [], ◌∷◌, ◌++◌}
+use Rattle.std.proofs.Common.{length, get_or, set, take, map, replicate, eqb, if◌then◌else◌, refl}
+use Rattle.std.proofs.Common.{sym, ap, ◌∙◌, arith, inl, inr}
+use Rattle.pg_board.proofs.Common.{cases_Bool, cases_eq, eq-eqb, ne_eqb, get_or-set_same}
+use Rattle.pg_board.proofs.Common.{get_or-set_other, length-set, take_more, take_all, append-nil}
+use Rattle.pg_board.proofs.Common.{same_lists, get_or_default, get_or-replicate, length-replicate}
+use Rattle.pg_board.proofs.Common.{length-map-range_with_len, get_or-map-range_with_len}
+use Rattle.pg_board.proofs.Common.{list_any-append, filter, range_with_len, IsStrictlyIncreasing}
+use Rattle.pg_board.proofs.Common.{is_on}
 use Rattle.pg_board.specs.Shape.{lines_holding}
 use Rattle.pg_board.specs.Gathered.{AreGathered, holds}
 use Rattle.pg_board.proofs.Ranges.{not_before, filter-on, filter-off}

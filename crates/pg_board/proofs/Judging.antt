@@ -1,12 +1,24 @@
 -- A board's answers in the words of its game.
-use Rattle.std.proofs.Common.{◌≡◌, ◌≢◌, ℕ, zero, suc, ◌+◌, ◌^◌, ◌<◌, ◌≤◌, Bool, true, false, ltb, List, [], ◌∷◌, length, get_or, refl, sym, ap, ◌∙◌, arith, subst}
-use Rattle.pg_board.proofs.Common.{ne_eqb, and_parts, and_right, ltb-true, count_by-le-length, length-filter, pow-le-pow_left, All, count_by, range_with_len, contains, one_if, Side, X, Y, Game, Position, is_free, points_of, claims_in_turn, point_count, lines_of, IsPosition, is_empty, is_full, all_touched, has_filled, short_joins, can_join, is_over_by, is_over, outcome_by, outcome, Switching, is_on, total, weight, greatest_weight, potential_holds, total_weight, point_weight, full_weight, avoider_total, avoider_weight, avoider_holds, free_points, Cells}
+use Rattle.std.proofs.Common.{◌≡◌, ◌≢◌, ℕ, zero, suc, ◌+◌, ◌^◌, ◌<◌, ◌≤◌, Bool, true, false, ltb}
+use Rattle.std.proofs.Common.{List, [], ◌∷◌, length, get_or, refl, sym, ap, ◌∙◌, arith, subst}
+use Rattle.pg_board.proofs.Common.{ne_eqb, and_parts, and_right, ltb-true, count_by-le-length}
+use Rattle.pg_board.proofs.Common.{length-filter, pow-le-pow_left, All, count_by, range_with_len}
+use Rattle.pg_board.proofs.Common.{contains, one_if, Side, X, Y, Game, Position, is_free, points_of}
+use Rattle.pg_board.proofs.Common.{claims_in_turn, point_count, lines_of, IsPosition, is_empty}
+use Rattle.pg_board.proofs.Common.{is_full, all_touched, has_filled, short_joins, can_join}
+use Rattle.pg_board.proofs.Common.{is_over_by, is_over, outcome_by, outcome, Switching, is_on}
+use Rattle.pg_board.proofs.Common.{total, weight, greatest_weight, potential_holds, total_weight}
+use Rattle.pg_board.proofs.Common.{point_weight, full_weight, avoider_total, avoider_weight}
+use Rattle.pg_board.proofs.Common.{avoider_holds, free_points, Cells}
 use Rattle.pg_base.specs.declared.kind.Kind.{Kind}
 use Rattle.pg_base.specs.declared.score.Score.{Score}
-use Rattle.pg_board.specs.Shape.{Shape, IsShape, shape_of, lines_holding, lines_through, degree_in, turn_cell}
-use Rattle.pg_board.specs.Fits.{Rules, Fits, rules_of, position_of, turn_of, left_of, live_lines_in, free_points_in}
+use Rattle.pg_board.specs.Shape.{Shape, IsShape, shape_of, lines_holding, lines_through, degree_in}
+use Rattle.pg_board.specs.Shape.{turn_cell}
+use Rattle.pg_board.specs.Fits.{Rules, Fits, rules_of, position_of, turn_of, left_of, live_lines_in}
+use Rattle.pg_board.specs.Fits.{free_points_in}
 use Rattle.pg_board.specs.Board.{line_at, degree, live_lines, is_live_with, live_with}
-use Rattle.pg_board.specs.Totals.{live_with_in, total_in, weight_in, greatest_in, potential_in, avoider_in, Agree, IsBase}
+use Rattle.pg_board.specs.Totals.{live_with_in, total_in, weight_in, greatest_in, potential_in}
+use Rattle.pg_board.specs.Totals.{avoider_in, Agree, IsBase}
 use Rattle.pg_board.proofs.Decoding.{has-points}
 use Rattle.pg_board.proofs.Walks.{disjoint-is}
 use Rattle.pg_board.proofs.Deciding.{turn-is, left-is, touched-is}

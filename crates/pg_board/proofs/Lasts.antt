@@ -1,7 +1,9 @@
 -- The one point that a line lacks.
-use Rattle.std.proofs.Common.{◌≡◌, ◌≢◌, ℕ, suc, ◌+◌, ◌<◌, true, false, List, [], ◌∷◌, Option, Some, None, length, eqb, sym, ◌∙◌, arith, inl, inr}
+use Rattle.std.proofs.Common.{◌≡◌, ◌≢◌, ℕ, suc, ◌+◌, ◌<◌, true, false, List, [], ◌∷◌, Option, Some}
+use Rattle.std.proofs.Common.{None, length, eqb, sym, ◌∙◌, arith, inl, inr}
 use Rattle.std.specs.Prelude.{IfSome, IfNone}
-use Rattle.pg_board.proofs.Common.{cases_Bool, or_cases, eqb-true, and_parts, false≢true, find, All, Side, is_free, is_on, is_near}
+use Rattle.pg_board.proofs.Common.{cases_Bool, or_cases, eqb-true, and_parts, false≢true, find, All}
+use Rattle.pg_board.proofs.Common.{Side, is_free, is_on, is_near}
 use Rattle.pg_board.specs.Shape.{Shape, IsShape, line_in}
 use Rattle.pg_board.specs.Fits.{position_of, held_in}
 use Rattle.pg_board.specs.Near.{has_none}

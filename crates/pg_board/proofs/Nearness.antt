@@ -1,6 +1,12 @@
 -- Lines that lack one point.
-use Rattle.std.proofs.Common.{◌≡◌, ℕ, ◌+◌, ◌<◌, ◌≤◌, Bool, true, false, not, ◌&&◌, ◌||◌, List, [], ◌∷◌, Some, None, length, get_or, drop, eqb, refl, sym, ap, ◌∙◌, arith, inl, inr}
-use Rattle.pg_board.proofs.Common.{cases_Bool, cases_eq, eq-eqb, ne_eqb, eqb-true, lt-ltb, and_parts, and_from, or_left, or_right, or_cases, false≢true, not-true, drop_more, count_by, find, list_any, list_all, IsStrictlyIncreasing, contains, one_if, Side, X, Y, Position, is_free, points_of, is_on, is_near}
+use Rattle.std.proofs.Common.{◌≡◌, ℕ, ◌+◌, ◌<◌, ◌≤◌, Bool, true, false, not, ◌&&◌, ◌||◌, List, []}
+use Rattle.std.proofs.Common.{◌∷◌, Some, None, length, get_or, drop, eqb, refl, sym, ap, ◌∙◌, arith}
+use Rattle.std.proofs.Common.{inl, inr}
+use Rattle.pg_board.proofs.Common.{cases_Bool, cases_eq, eq-eqb, ne_eqb, eqb-true, lt-ltb}
+use Rattle.pg_board.proofs.Common.{and_parts, and_from, or_left, or_right, or_cases, false≢true}
+use Rattle.pg_board.proofs.Common.{not-true, drop_more, count_by, find, list_any, list_all}
+use Rattle.pg_board.proofs.Common.{IsStrictlyIncreasing, contains, one_if, Side, X, Y, Position}
+use Rattle.pg_board.proofs.Common.{is_free, points_of, is_on, is_near}
 use Rattle.pg_board.specs.Shape.{Shape}
 use Rattle.pg_board.specs.Fits.{has_mark, position_of}
 use Rattle.pg_board.specs.Near.{has_none}

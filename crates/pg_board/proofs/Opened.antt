@@ -1,7 +1,10 @@
 -- The board that was opened.
-use Rattle.std.proofs.Common.{◌≡◌, ℕ, zero, suc, ◌<◌, ◌≤◌, Bool, true, false, ◌&&◌, List, length, get_or, set, ltb, refl, ap, ◌∙◌, arith}
+use Rattle.std.proofs.Common.{◌≡◌, ℕ, zero, suc, ◌<◌, ◌≤◌, Bool, true, false, ◌&&◌, List, length}
+use Rattle.std.proofs.Common.{get_or, set, ltb, refl, ap, ◌∙◌, arith}
 use Rattle.std.proofs.Common.{[]}
-use Rattle.pg_board.proofs.Common.{length-filter, range_with_len, is_free, present, lt-ltb, get_or-set_same, contains, same_points, Side, X, Y, Position, claims_in_turn, Cells, with_set, settled}
+use Rattle.pg_board.proofs.Common.{length-filter, range_with_len, is_free, present, lt-ltb}
+use Rattle.pg_board.proofs.Common.{get_or-set_same, contains, same_points, Side, X, Y, Position}
+use Rattle.pg_board.proofs.Common.{claims_in_turn, Cells, with_set, settled}
 use Rattle.pg_board.specs.declared.plays.Played.{Played}
 use Rattle.pg_board.specs.Fits.{AreFit, earlier_of, free_points_in}
 use Rattle.pg_board.proofs.Ranges.{count-few}

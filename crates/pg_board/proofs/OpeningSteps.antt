@@ -1,9 +1,16 @@
 -- A board while it is opened.
-use Rattle.std.proofs.Common.{◌≡◌, ℕ, zero, suc, ◌+◌, ◌-◌, ◌<◌, ◌≤◌, Bool, true, false, not, ◌&&◌, ◌||◌, List, length, get_or, set, eqb, ltb, refl, sym, ap, ◌∙◌, arith, inl, inr, subst}
-use Rattle.pg_board.proofs.Common.{cases_eq, cases_lt, eq-eqb, ne_eqb, eqb-true, lt-ltb, le-ltb, and_right, false≢true, cases_eq, get_or-set_same, get_or-set_other, length-set, count_by, filter, range_with_len, FinSet, contains, nat_cmp, Side, X, Y, other, Position, is_free, points_of, after_with, is_same_side, Cells, with_set}
+use Rattle.std.proofs.Common.{◌≡◌, ℕ, zero, suc, ◌+◌, ◌-◌, ◌<◌, ◌≤◌, Bool, true, false, not, ◌&&◌}
+use Rattle.std.proofs.Common.{◌||◌, List, length, get_or, set, eqb, ltb, refl, sym, ap, ◌∙◌, arith}
+use Rattle.std.proofs.Common.{inl, inr, subst}
+use Rattle.pg_board.proofs.Common.{cases_eq, cases_lt, eq-eqb, ne_eqb, eqb-true, lt-ltb, le-ltb}
+use Rattle.pg_board.proofs.Common.{and_right, false≢true, cases_eq, get_or-set_same}
+use Rattle.pg_board.proofs.Common.{get_or-set_other, length-set, count_by, filter, range_with_len}
+use Rattle.pg_board.proofs.Common.{FinSet, contains, nat_cmp, Side, X, Y, other, Position, is_free}
+use Rattle.pg_board.proofs.Common.{points_of, after_with, is_same_side, Cells, with_set}
 use Rattle.pg_board.specs.Shape.{Shape, line_in, turn_cell, mark_cell}
 use Rattle.pg_board.specs.Counts.{is_clear, clear_lines}
-use Rattle.pg_board.specs.Fits.{Rules, Fits, Leads, has_mark, mark_of, turn_of, position_of, set_below, summed, entries_of, free_points_in}
+use Rattle.pg_board.specs.Fits.{Rules, Fits, Leads, has_mark, mark_of, turn_of, position_of}
+use Rattle.pg_board.specs.Fits.{set_below, summed, entries_of, free_points_in}
 use Rattle.pg_board.specs.Opening.{Opens, turn_code}
 use Rattle.pg_board.specs.declared.rings.Rings.{Rings}
 use Rattle.pg_board.proofs.CellPlaces.{mark_cell-is}

@@ -1,6 +1,12 @@
 -- Free points, sums over them, and points in lines, before and after a play.
-use Rattle.std.proofs.Common.{◌≡◌, ◌≢◌, ℕ, zero, suc, ◌+◌, ◌<◌, ◌≤◌, Bool, true, false, not, ◌&&◌, ◌||◌, List, [], ◌∷◌, length, eqb, if◌then◌else◌, refl, sym, ap, ◌∙◌, arith, inl, inr}
-use Rattle.pg_board.proofs.Common.{cases_Bool, cases_eq, eq-eqb, ne_eqb, and_right, false≢true, or_cases, or_parts, length-filter, count_by, range_with_len, Contains, IsStrictlyIncreasing, FinSet, contains, nat_cmp, is_same_side, in_insert, one_if, Side, X, Y, Position, is_free, points_of, after_with, x_after, y_after, is_on, without}
+use Rattle.std.proofs.Common.{◌≡◌, ◌≢◌, ℕ, zero, suc, ◌+◌, ◌<◌, ◌≤◌, Bool, true, false, not, ◌&&◌}
+use Rattle.std.proofs.Common.{◌||◌, List, [], ◌∷◌, length, eqb, if◌then◌else◌, refl, sym, ap, ◌∙◌}
+use Rattle.std.proofs.Common.{arith, inl, inr}
+use Rattle.pg_board.proofs.Common.{cases_Bool, cases_eq, eq-eqb, ne_eqb, and_right, false≢true}
+use Rattle.pg_board.proofs.Common.{or_cases, or_parts, length-filter, count_by, range_with_len}
+use Rattle.pg_board.proofs.Common.{Contains, IsStrictlyIncreasing, FinSet, contains, nat_cmp}
+use Rattle.pg_board.proofs.Common.{is_same_side, in_insert, one_if, Side, X, Y, Position, is_free}
+use Rattle.pg_board.proofs.Common.{points_of, after_with, x_after, y_after, is_on, without}
 use Rattle.pg_base.proofs.LineLemmas.{count-ascending}
 use Rattle.pg_board.specs.Shape.{Shape}
 use Rattle.pg_board.specs.Fits.{summed, free_points_in}

@@ -1,6 +1,11 @@
 -- The lines through a point.
-use Rattle.std.proofs.Common.{◌≡◌, ◌≢◌, ℕ, ◌+◌, ◌-◌, ◌<◌, ◌≤◌, Bool, true, false, List, length, get_or, take, eqb, refl, sym, ap, ◌∙◌, arith, inl, inr}
-use Rattle.pg_board.proofs.Common.{cases_Bool, eqb-true, eq-eqb, false≢true, Contains-get_or, take-take, length-take-le, filter, range_with_len, list_any, count_by, IsStrictlyIncreasing, Side, is_on, and_right, take_at, length_push, take-append-drop, filter-append, length-filter, one_if, X, Y, is_same_side, Cells, or_left, or_right, or_cases}
+use Rattle.std.proofs.Common.{◌≡◌, ◌≢◌, ℕ, ◌+◌, ◌-◌, ◌<◌, ◌≤◌, Bool, true, false, List, length}
+use Rattle.std.proofs.Common.{get_or, take, eqb, refl, sym, ap, ◌∙◌, arith, inl, inr}
+use Rattle.pg_board.proofs.Common.{cases_Bool, eqb-true, eq-eqb, false≢true, Contains-get_or}
+use Rattle.pg_board.proofs.Common.{take-take, length-take-le, filter, range_with_len, list_any}
+use Rattle.pg_board.proofs.Common.{count_by, IsStrictlyIncreasing, Side, is_on, and_right, take_at}
+use Rattle.pg_board.proofs.Common.{length_push, take-append-drop, filter-append, length-filter}
+use Rattle.pg_board.proofs.Common.{one_if, X, Y, is_same_side, Cells, or_left, or_right, or_cases}
 use Rattle.std.proofs.lemmas.List.Kept.{IsStrictlyIncreasing-filter}
 use Rattle.pg_board.specs.Shape.{Shape, line_in, lines_through, lines_holding}
 use Rattle.pg_board.specs.Counts.{count_in, is_clear}

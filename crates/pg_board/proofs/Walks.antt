@@ -1,6 +1,12 @@
 -- A walk over the lines without a point of the other side, in search of one that lacks one point.
-use Rattle.std.proofs.Common.{◌≡◌, ℕ, zero, suc, ◌+◌, ◌<◌, ◌≤◌, Bool, true, false, not, ◌&&◌, ◌||◌, List, [], ◌∷◌, Option, Some, None, length, eqb, ltb, refl, sym, ap, ◌∙◌, arith, inl, inr}
-use Rattle.pg_board.proofs.Common.{cases_Bool, cases_eq, eqb-true, and_parts, and_right, and_cases, or_cases, false≢true, not-false, ltb-true, find, range_with_len, list_any, list_all, Contains, contains, ShareNone, Side, X, Y, other, Position, is_free, points_of, lines_of, is_touched, is_near, is_on, free-of, Game}
+use Rattle.std.proofs.Common.{◌≡◌, ℕ, zero, suc, ◌+◌, ◌<◌, ◌≤◌, Bool, true, false, not, ◌&&◌, ◌||◌}
+use Rattle.std.proofs.Common.{List, [], ◌∷◌, Option, Some, None, length, eqb, ltb, refl, sym, ap}
+use Rattle.std.proofs.Common.{◌∙◌, arith, inl, inr}
+use Rattle.pg_board.proofs.Common.{cases_Bool, cases_eq, eqb-true, and_parts, and_right, and_cases}
+use Rattle.pg_board.proofs.Common.{or_cases, false≢true, not-false, ltb-true, find, range_with_len}
+use Rattle.pg_board.proofs.Common.{list_any, list_all, Contains, contains, ShareNone, Side, X, Y}
+use Rattle.pg_board.proofs.Common.{other, Position, is_free, points_of, lines_of, is_touched}
+use Rattle.pg_board.proofs.Common.{is_near, is_on, free-of, Game}
 use Rattle.pg_game.proofs.Lowest.{find_both}
 use Rattle.pg_board.specs.Shape.{Shape}
 use Rattle.pg_board.specs.Board.{line_at, live_lines}

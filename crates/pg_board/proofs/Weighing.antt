@@ -1,16 +1,24 @@
 -- The weights of a board's lines, by the cells.
-use Rattle.std.proofs.Common.{◌≡◌, ◌≢◌, ℕ, ◌+◌, ◌-◌, ◌*◌, ◌^◌, ◌<◌, ◌≤◌, max, map, ◌++◌, Bool, true, false, not, ◌&&◌, List, [], ◌∷◌, length, get_or, take, eqb, if◌then◌else◌, refl, sym, ap, ◌∙◌, arith, inl, inr}
-use Rattle.pg_board.proofs.Common.{cases_Bool, eq-eqb, ne_eqb, sum_by-le, sum_by_more_le, pow-le-pow_right, All, count_by, sum_by, filter, range_with_len, contains, ShareNone, one_if, Side, X, Y, other, Position, is_free, points_of, is_touched, is_on, line_weight, greatest, points-le, line_weight-le}
+use Rattle.std.proofs.Common.{◌≡◌, ◌≢◌, ℕ, ◌+◌, ◌-◌, ◌*◌, ◌^◌, ◌<◌, ◌≤◌, max, map, ◌++◌, Bool, true}
+use Rattle.std.proofs.Common.{false, not, ◌&&◌, List, [], ◌∷◌, length, get_or, take, eqb}
+use Rattle.std.proofs.Common.{if◌then◌else◌, refl, sym, ap, ◌∙◌, arith, inl, inr}
+use Rattle.pg_board.proofs.Common.{cases_Bool, eq-eqb, ne_eqb, sum_by-le, sum_by_more_le}
+use Rattle.pg_board.proofs.Common.{pow-le-pow_right, All, count_by, sum_by, filter, range_with_len}
+use Rattle.pg_board.proofs.Common.{contains, ShareNone, one_if, Side, X, Y, other, Position}
+use Rattle.pg_board.proofs.Common.{is_free, points_of, is_touched, is_on, line_weight, greatest}
+use Rattle.pg_board.proofs.Common.{points-le, line_weight-le}
 use Rattle.pg_board.specs.Shape.{Shape, line_in, lines_through, lines_holding}
 use Rattle.pg_board.specs.Counts.{count_in, lines_in, lines_with, has_free, is_clear, free_by}
 use Rattle.pg_board.specs.Fits.{position_of, free_points_in}
 use Rattle.pg_board.specs.Board.{is_live_with}
-use Rattle.pg_board.specs.Totals.{live_with_in, in_base, total_in, weight_in, greatest_in, Agree, IsBase}
+use Rattle.pg_board.specs.Totals.{live_with_in, in_base, total_in, weight_in, greatest_in, Agree}
+use Rattle.pg_board.specs.Totals.{IsBase}
 use Rattle.pg_board.proofs.Claiming.{sides-sum}
 use Rattle.pg_board.proofs.Ranges.{count-cons, filter-on, filter-off}
 use Rattle.pg_board.proofs.Answering.{clear-any}
 use Rattle.pg_board.proofs.Walks.{disjoint-is}
-use Rattle.pg_board.proofs.Digits.{in_base-next, in_base-same, in_base-rise, sum-classes, sum-all, count-all, sum-filter}
+use Rattle.pg_board.proofs.Digits.{in_base-next, in_base-same, in_base-rise, sum-classes, sum-all}
+use Rattle.pg_board.proofs.Digits.{count-all, sum-filter}
 
 -- ---- free points of a line
 

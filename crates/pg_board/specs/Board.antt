@@ -1,6 +1,7 @@
 -- What a board is seen as, and the words in which it answers.
 use Rattle.std.specs.Prelude.{ℕ, Bool, not, ◌&&◌, ◌==◌, List, [], length, get_or}
-use Rattle.pg_board.specs.Prelude.{count_by, filter, range_with_len, contains, Side, Game, Position, is_free, points_of, lines_of, is_touched, is_on, Cells}
+use Rattle.pg_board.specs.Prelude.{count_by, filter, range_with_len, contains, Side, Game, Position}
+use Rattle.pg_board.specs.Prelude.{is_free, points_of, lines_of, is_touched, is_on, Cells}
 
 -- a position with the trail that leads to it
 pub record Stand : Type 0 where

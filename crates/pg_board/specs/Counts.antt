@@ -1,6 +1,7 @@
 -- The counts of a board's lines.
 use Rattle.std.specs.Prelude.{◌≡◌, ℕ, ◌+◌, ◌-◌, ◌<◌, ◌≤◌, Bool, ◌&&◌, ◌==◌, List, length, get_or}
-use Rattle.pg_board.specs.Prelude.{count_by, filter, range_with_len, Side, X, Y, one_if, other, is_same_side}
+use Rattle.pg_board.specs.Prelude.{count_by, filter, range_with_len, Side, X, Y, one_if, other}
+use Rattle.pg_board.specs.Prelude.{is_same_side}
 use Rattle.pg_board.specs.Shape.{Shape, line_in, count_cell, free_cell, cell_count}
 
 -- how many points of the line the cells say that the side has

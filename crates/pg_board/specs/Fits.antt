@@ -1,8 +1,13 @@
 -- How the fields of a board stand for what it is seen as.
-use Rattle.std.specs.Prelude.{◌≡◌, ◌≢◌, ℕ, zero, suc, ◌+◌, ◌-◌, ◌*◌, ◌^◌, ◌<◌, ◌≤◌, Bool, not, ◌==◌, List, [], ◌∷◌, ◌++◌, length, get_or, take, if◌then◌else◌}
-use Rattle.pg_board.specs.Prelude.{count_by, filter, range_with_len, FinSet, empty, insert, contains, nat_cmp, MAX_LINE_POINTS, Switching, Side, X, Y, Game, Position, is_free, points_of, after_with, is_touched, is_same_side, present, Cells, back_to}
+use Rattle.std.specs.Prelude.{◌≡◌, ◌≢◌, ℕ, zero, suc, ◌+◌, ◌-◌, ◌*◌, ◌^◌, ◌<◌, ◌≤◌, Bool, not, ◌==◌}
+use Rattle.std.specs.Prelude.{List, [], ◌∷◌, ◌++◌, length, get_or, take, if◌then◌else◌}
+use Rattle.pg_board.specs.Prelude.{count_by, filter, range_with_len, FinSet, empty, insert}
+use Rattle.pg_board.specs.Prelude.{contains, nat_cmp, MAX_LINE_POINTS, Switching, Side, X, Y, Game}
+use Rattle.pg_board.specs.Prelude.{Position, is_free, points_of, after_with, is_touched}
+use Rattle.pg_board.specs.Prelude.{is_same_side, present, Cells, back_to}
 use Rattle.pg_board.specs.Board.{Stand}
-use Rattle.pg_board.specs.Shape.{Shape, IsShape, shape_of, line_in, lines_through, degree_in, turn_cell, mark_cell}
+use Rattle.pg_board.specs.Shape.{Shape, IsShape, shape_of, line_in, lines_through, degree_in}
+use Rattle.pg_board.specs.Shape.{turn_cell, mark_cell}
 use Rattle.pg_board.specs.Counts.{AreCounted, count_in, clear_lines}
 use Rattle.pg_board.specs.Lines.{clear_in}
 use Rattle.pg_board.specs.declared.plays.Played.{Played}

@@ -1,6 +1,8 @@
 -- Lines that lack one point.
-use Rattle.std.specs.Prelude.{◌≡◌, ℕ, ◌<◌, Bool, true, false, not, ◌&&◌, List, length, Option, Some, None, IfSome}
-use Rattle.pg_board.specs.Prelude.{Contains, ShareNone, other, Side, Position, is_near, X, Y, Game, lines_of}
+use Rattle.std.specs.Prelude.{◌≡◌, ℕ, ◌<◌, Bool, true, false, not, ◌&&◌, List, length, Option, Some}
+use Rattle.std.specs.Prelude.{None, IfSome}
+use Rattle.pg_board.specs.Prelude.{Contains, ShareNone, other, Side, Position, is_near, X, Y, Game}
+use Rattle.pg_board.specs.Prelude.{lines_of}
 use Rattle.pg_board.specs.Board.{line_at, live_lines}
 use Rattle.pg_board.specs.Fits.{has_mark}
 

@@ -1,6 +1,8 @@
 -- A board while it is opened.
-use Rattle.std.specs.Prelude.{◌≡◌, ℕ, ◌+◌, ◌-◌, ◌<◌, ◌≤◌, true, ◌&&◌, ◌==◌, List, length, get_or, nat_lt}
-use Rattle.pg_board.specs.Prelude.{count_by, range_with_len, contains, Side, X, Y, Position, is_free, points_of, Cells}
+use Rattle.std.specs.Prelude.{◌≡◌, ℕ, ◌+◌, ◌-◌, ◌<◌, ◌≤◌, true, ◌&&◌, ◌==◌, List, length, get_or}
+use Rattle.std.specs.Prelude.{nat_lt}
+use Rattle.pg_board.specs.Prelude.{count_by, range_with_len, contains, Side, X, Y, Position}
+use Rattle.pg_board.specs.Prelude.{is_free, points_of, Cells}
 use Rattle.pg_board.specs.Shape.{Shape, line_in, cell_count}
 use Rattle.pg_board.specs.Counts.{lines_in}
 use Rattle.pg_board.specs.Fits.{Rules, Fits, position_of, summed, entries_of}

@@ -1,6 +1,8 @@
 -- The lines of a game as a board keeps them, and the cells in which it counts.
 use Rattle.std.specs.Prelude.{◌≡◌, ℕ, ◌+◌, ◌<◌, ◌≤◌, List, [], length, get_or}
-use Rattle.pg_board.specs.Prelude.{All, filter, range_with_len, IsStrictlyIncreasing, MAX_POINTS, MAX_LINES, MAX_LINE_POINTS, Side, X, Y, Game, lines_of, point_count, is_on, greatest_length}
+use Rattle.pg_board.specs.Prelude.{All, filter, range_with_len, IsStrictlyIncreasing, MAX_POINTS}
+use Rattle.pg_board.specs.Prelude.{MAX_LINES, MAX_LINE_POINTS, Side, X, Y, Game, lines_of}
+use Rattle.pg_board.specs.Prelude.{point_count, is_on, greatest_length}
 
 -- how many points there are, the length of the longest line, and the lines
 pub record Shape : Type 0 where

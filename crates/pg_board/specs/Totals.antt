@@ -1,6 +1,8 @@
 -- The numbers of a board's live lines, and the weights of its lines and points.
-use Rattle.std.specs.Prelude.{◌≡◌, ℕ, zero, suc, ◌+◌, ◌*◌, ◌^◌, ◌<◌, ◌≤◌, Bool, nat_lt, List, length, map, ◌-◌, if◌then◌else◌}
-use Rattle.pg_board.specs.Prelude.{count_by, sum_by, MAX_LINE_POINTS, is_same_side, Side, Y, Position, points_of, is_on, line_weight, greatest, x_takes_last}
+use Rattle.std.specs.Prelude.{◌≡◌, ℕ, zero, suc, ◌+◌, ◌*◌, ◌^◌, ◌<◌, ◌≤◌, Bool, nat_lt, List}
+use Rattle.std.specs.Prelude.{length, map, ◌-◌, if◌then◌else◌}
+use Rattle.pg_board.specs.Prelude.{count_by, sum_by, MAX_LINE_POINTS, is_same_side, Side, Y}
+use Rattle.pg_board.specs.Prelude.{Position, points_of, is_on, line_weight, greatest, x_takes_last}
 use Rattle.pg_board.specs.Board.{is_live_with}
 use Rattle.pg_board.specs.Shape.{Shape, IsShape}
 use Rattle.pg_board.specs.Counts.{AreCounted, count_in}

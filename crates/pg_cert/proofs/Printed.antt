@@ -1,6 +1,8 @@
 -- A printed text that grows at its end.
-use Rattle.std.proofs.Common.{◌≡◌, ℕ, ◌+◌, Bool, true, false, ◌||◌, List, [], ◌∷◌, ◌++◌, map, refl, sym, ap, ◌∙◌, append_assoc}
-use Rattle.pg_cert.proofs.Common.{append-nil, FinSet, contains, decimal, nat_cmp, points_below, one_where, Bytes, spaced, behind_spaces}
+use Rattle.std.proofs.Common.{◌≡◌, ℕ, ◌+◌, Bool, true, false, ◌||◌, List, [], ◌∷◌, ◌++◌, map, refl}
+use Rattle.std.proofs.Common.{sym, ap, ◌∙◌, append_assoc}
+use Rattle.pg_cert.proofs.Common.{append-nil, FinSet, contains, decimal, nat_cmp, points_below}
+use Rattle.pg_cert.proofs.Common.{one_where, Bytes, spaced, behind_spaces}
 use Rattle.pg_base.proofs.MemberLemmas.{points_more}
 use Rattle.pg_cert.specs.Print.{separated}
 

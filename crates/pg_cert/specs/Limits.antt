@@ -1,6 +1,7 @@
 -- Certificates within the ranges, orders and limits of the format.
 use Rattle.std.specs.Prelude.{◌≡◌, ℕ, Bool, ◌%◌, ◌<◌, ◌≤◌, true, false, List, length, map, sum_by}
-use Rattle.pg_cert.specs.Prelude.{FinSet, contains, All, nat_cmp, Pair, MAX_MEMBERS, Side, X, Y, ascend_from}
+use Rattle.pg_cert.specs.Prelude.{FinSet, contains, All, nat_cmp, Pair, MAX_MEMBERS, Side, X, Y}
+use Rattle.pg_cert.specs.Prelude.{ascend_from}
 use Rattle.pg_game.specs.declared.bounds.TheConstants.{MAX_BIAS}
 use Rattle.pg_cert.specs.declared.limits.TheConstants.{MAX_CLAIMS, MAX_CLAIM_NODES, MAX_NODES}
 use Rattle.pg_cert.specs.declared.reply.Reply.{Reply}

@@ -1,7 +1,9 @@
 -- The numbers of the faults of nodes.
 use Rattle.std.specs.Prelude.{ℕ}
 use Rattle.pg_cert.specs.declared.node_fault.NodeFault.{NodeFault}
-use Rattle.pg_cert.specs.declared.node_fault.NodeFault.TheVariants.{Child, Marks, Turn, Moves, End, Pairs, Potential, Trees, Cuts, Threat, Root, Body, Weaker}
+use Rattle.pg_cert.specs.declared.node_fault.NodeFault.TheVariants.{Child, Marks, Turn, Moves, End}
+use Rattle.pg_cert.specs.declared.node_fault.NodeFault.TheVariants.{Pairs, Potential, Trees, Cuts}
+use Rattle.pg_cert.specs.declared.node_fault.NodeFault.TheVariants.{Threat, Root, Body, Weaker}
 
 -- the number of a fault's code
 abbrev pub fault_number : NodeFault → ℕ

@@ -1,8 +1,11 @@
 -- The claimer's own move at a node of its claim: where a player stands, what it moves there, and
 -- where it stands after a reply. It plays in a position that it imagines, which `weaker` makes
 -- another than the true one.
-use Rattle.std.specs.Prelude.{ℕ, zero, suc, false, ◌==◌, List, [], ◌∷◌, Option, Some, None, find, slice_get, if◌then◌else◌}
-use Rattle.pg_cert.specs.Prelude.{FinSet, nat_cmp, Kind, AvoiderEnforcer, Side, Game, Position, after, pairs_answer, potential_answer, avoider_answer, Answered, trees_answer, cuts_answer, free_or_lowest}
+use Rattle.std.specs.Prelude.{ℕ, zero, suc, false, ◌==◌, List, [], ◌∷◌, Option, Some, None, find}
+use Rattle.std.specs.Prelude.{slice_get, if◌then◌else◌}
+use Rattle.pg_cert.specs.Prelude.{FinSet, nat_cmp, Kind, AvoiderEnforcer, Side, Game, Position}
+use Rattle.pg_cert.specs.Prelude.{after, pairs_answer, potential_answer, avoider_answer, Answered}
+use Rattle.pg_cert.specs.Prelude.{trees_answer, cuts_answer, free_or_lowest}
 use Rattle.std.specs.Option.{option_map}
 use Rattle.pg_game.specs.declared.field.Field.{Field}
 use Rattle.pg_game.specs.declared.field.Field.TheVariants.{Lines, Graph as OnGraph}
@@ -10,7 +13,8 @@ use Rattle.pg_cert.specs.Node.{position_of}
 use Rattle.pg_cert.specs.Valid.{with_e_named}
 use Rattle.pg_cert.specs.declared.node.Node.{Node}
 use Rattle.pg_cert.specs.declared.node.Body.{Body}
-use Rattle.pg_cert.specs.declared.node.Body.TheVariants.{Over, Move, All, Pairs, Potential, Trees, Cuts, Threat, Weaker}
+use Rattle.pg_cert.specs.declared.node.Body.TheVariants.{Over, Move, All, Pairs, Potential, Trees}
+use Rattle.pg_cert.specs.declared.node.Body.TheVariants.{Cuts, Threat, Weaker}
 use Rattle.pg_cert.specs.declared.reply.Reply.{Reply}
 
 -- Where a player stands: what is left of its node's body, the last imagined reply since it came

@@ -1,6 +1,8 @@
 -- The printed text of a certificate.
-use Rattle.std.specs.Prelude.{ℕ, nat_lt, if◌then◌else◌, Bool, true, false, List, [], ◌∷◌, ◌++◌, length, map, codes}
-use Rattle.pg_cert.specs.Prelude.{FinSet, decimal, flat_map, nat_cmp, BAR, LINE_FEED, SPACE, side_word, Side, members, Pair, Bytes, spaced}
+use Rattle.std.specs.Prelude.{ℕ, nat_lt, if◌then◌else◌, Bool, true, false, List, [], ◌∷◌, ◌++◌}
+use Rattle.std.specs.Prelude.{length, map, codes}
+use Rattle.pg_cert.specs.Prelude.{FinSet, decimal, flat_map, nat_cmp, BAR, LINE_FEED, SPACE}
+use Rattle.pg_cert.specs.Prelude.{side_word, Side, members, Pair, Bytes, spaced}
 use Rattle.pg_base.specs.Goal.{goal_word}
 use Rattle.pg_cert.specs.declared.reply.Reply.{Reply}
 use Rattle.pg_cert.specs.declared.node.Body.{Body}

@@ -1,6 +1,11 @@
 -- When a node is faulty, and when a certificate is valid for a game.
-use Rattle.std.specs.Prelude.{◌≡◌, ℕ, ◌+◌, ◌<◌, ◌≤◌, Bool, true, false, ◌&&◌, ◌==◌, List, length, map, slice_get, Some, if◌then◌else◌}
-use Rattle.pg_cert.specs.Prelude.{FinSet, insert, nat_cmp, AreBelow, other, Kind, MakerBreaker, MakerMaker, AvoiderEnforcer, Switching, Side, X, Y, Game, Position, point_count, bias_of, free_points, is_over, outcome, after, with_turn, PairsHold, PotentialHolds, AvoiderHolds, TreesHold, CutsHold, IsNoWorse}
+use Rattle.std.specs.Prelude.{◌≡◌, ℕ, ◌+◌, ◌<◌, ◌≤◌, Bool, true, false, ◌&&◌, ◌==◌, List, length}
+use Rattle.std.specs.Prelude.{map, slice_get, Some, if◌then◌else◌}
+use Rattle.pg_cert.specs.Prelude.{FinSet, insert, nat_cmp, AreBelow, other, Kind, MakerBreaker}
+use Rattle.pg_cert.specs.Prelude.{MakerMaker, AvoiderEnforcer, Switching, Side, X, Y, Game}
+use Rattle.pg_cert.specs.Prelude.{Position, point_count, bias_of, free_points, is_over, outcome}
+use Rattle.pg_cert.specs.Prelude.{after, with_turn, PairsHold, PotentialHolds, AvoiderHolds}
+use Rattle.pg_cert.specs.Prelude.{TreesHold, CutsHold, IsNoWorse}
 use Rattle.std.specs.List.{All as Each}
 use Rattle.pg_base.specs.declared.goal.Goal.{Goal}
 use Rattle.pg_base.specs.declared.goal.Goal.TheVariants.{Win, Draw as AtLeastDraw}
@@ -13,7 +18,8 @@ use Rattle.pg_cert.specs.declared.cert.Cert.{Cert}
 use Rattle.pg_cert.specs.declared.cert.Claim.{Claim}
 use Rattle.pg_cert.specs.declared.node.Node.{Node}
 use Rattle.pg_cert.specs.declared.node.Body.{Body}
-use Rattle.pg_cert.specs.declared.node.Body.TheVariants.{Over, Move, All, Pairs, Potential, Trees, Cuts, Threat, Weaker}
+use Rattle.pg_cert.specs.declared.node.Body.TheVariants.{Over, Move, All, Pairs, Potential, Trees}
+use Rattle.pg_cert.specs.declared.node.Body.TheVariants.{Cuts, Threat, Weaker}
 use Rattle.pg_cert.specs.declared.node_fault.NodeFault.{NodeFault}
 use Rattle.pg_cert.specs.declared.node_fault.NodeFault.TheVariants as faults
 

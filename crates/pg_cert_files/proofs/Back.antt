@@ -1,12 +1,26 @@
 -- A printed certificate is read again as the same certificate.
-use Rattle.std.proofs.Common.{◌≡◌, ℕ, suc, ◌+◌, ◌-◌, ◌^◌, ◌<◌, ◌≤◌, lit<, false, List, [], ◌∷◌, ◌++◌, length, arith, refl, sym, ap, ap₂, subst, ◌∙◌, append_assoc, Option, Some, None, Ok}
+use Rattle.std.proofs.Common.{◌≡◌, ℕ, suc, ◌+◌, ◌-◌, ◌^◌, ◌<◌, ◌≤◌, lit<, false, List, [], ◌∷◌}
+use Rattle.std.proofs.Common.{◌++◌, length, arith, refl, sym, ap, ap₂, subst, ◌∙◌, append_assoc}
+use Rattle.std.proofs.Common.{Option, Some, None, Ok}
 use Rattle.std.specs.Prelude.{◌==◌, nat_lt, nat_le, codes, fold}
-use Rattle.pg_cert_files.proofs.Common.{decimal, flat_map, AllByRecursion, nat_tests, append-nil, sum_by-cons, All-from_recursion, recursion_from_All, Side, Bytes, Lacks, two_parts, four_parts, spaced, IsNode, IsClaim, IsOfVersion, IsWithinLimits, node_count, side_word, goal_word, node_text, claim_words, count_words, claim_text, header, printed_certificate, Version, One, Two, Part, Node, Claim, Cert, just_two, number_decimal, IsWord, decimal_is_word, lacks_space, spaced_quiet, quiet_lacks_feed, has_bar, version_of, head_of, count_of, count_of_two, Fault, Head, IsRead}
+use Rattle.pg_cert_files.proofs.Common.{decimal, flat_map, AllByRecursion, nat_tests, append-nil}
+use Rattle.pg_cert_files.proofs.Common.{sum_by-cons, All-from_recursion, recursion_from_All, Side}
+use Rattle.pg_cert_files.proofs.Common.{Bytes, Lacks, two_parts, four_parts, spaced, IsNode}
+use Rattle.pg_cert_files.proofs.Common.{IsClaim, IsOfVersion, IsWithinLimits, node_count, side_word}
+use Rattle.pg_cert_files.proofs.Common.{goal_word, node_text, claim_words, count_words, claim_text}
+use Rattle.pg_cert_files.proofs.Common.{header, printed_certificate, Version, One, Two, Part, Node}
+use Rattle.pg_cert_files.proofs.Common.{Claim, Cert, just_two, number_decimal, IsWord}
+use Rattle.pg_cert_files.proofs.Common.{decimal_is_word, lacks_space, spaced_quiet}
+use Rattle.pg_cert_files.proofs.Common.{quiet_lacks_feed, has_bar, version_of, head_of, count_of}
+use Rattle.pg_cert_files.proofs.Common.{count_of_two, Fault, Head, IsRead}
 use Rattle.pg_base.specs.declared.side.Side.TheVariants as sides
 use Rattle.pg_base.specs.declared.goal.Goal.{Goal}
 use Rattle.pg_base.specs.declared.goal.Goal.TheVariants as goals
 use Rattle.pg_cert_files.specs.Lines.{cut}
-use Rattle.pg_cert_files.specs.CertFile.{start, headed, behind, step, Seen, listed, taken, seen, end_fault, outcome, fault_of, text_version, text_parts, Gathered, closed, with_part, none_gathered, gathered, unless_faulty, certificate}
+use Rattle.pg_cert_files.specs.CertFile.{start, headed, behind, step, Seen, listed, taken, seen}
+use Rattle.pg_cert_files.specs.CertFile.{end_fault, outcome, fault_of, text_version, text_parts}
+use Rattle.pg_cert_files.specs.CertFile.{Gathered, closed, with_part, none_gathered, gathered}
+use Rattle.pg_cert_files.specs.CertFile.{unless_faulty, certificate}
 use Rattle.pg_cert_files.specs.Reader.{told}
 use Rattle.pg_cert.specs.declared.part.Part.TheVariants as parts
 use Rattle.pg_cert_files.specs.declared.progress.Due.TheVariants as due

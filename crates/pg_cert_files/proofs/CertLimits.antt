@@ -1,8 +1,21 @@
 -- A certificate that is read is within the limits.
-use Rattle.std.proofs.Common.{◌≡◌, ℕ, zero, suc, ◌+◌, ◌-◌, ◌<◌, ◌≤◌, false, cond, ◌||◌, inl, inr, List, [], ◌∷◌, ◌++◌, length, arith, refl, sym, ap, subst, Option, Some, None, Result, Ok, Err}
+use Rattle.std.proofs.Common.{◌≡◌, ℕ, zero, suc, ◌+◌, ◌-◌, ◌<◌, ◌≤◌, false, cond, ◌||◌, inl, inr}
+use Rattle.std.proofs.Common.{List, [], ◌∷◌, ◌++◌, length, arith, refl, sym, ap, subst, Option}
+use Rattle.std.proofs.Common.{Some, None, Result, Ok, Err}
 use Rattle.std.specs.Prelude.{◌==◌, nat_lt, nat_le, fold}
-use Rattle.pg_cert_files.proofs.Common.{AllByRecursion, ltb-false, or_parts, nat_tests, length-append, All-from_recursion, sum_by_push, Bytes, number, lines, IsNode, IsClaim, IsOfVersion, IsWithinLimits, node_count, Version, Part, Node, Claim, Cert, has_bar, node_line, version_of, head_of, count_of, Fault, Head, ok_is, err_not, then_ok, chosen, done, HasBody, IsRead, node_ok}
-use Rattle.pg_cert_files.specs.CertFile.{Step, headed, claimed, claim_step, numbered, counted, behind, node_step, step_due, step, Seen, nothing, listed, taken, goes_on, after, seen, end_fault, or_at_end, fault_of, text_version, text_parts, Gathered, last_claim, closed, with_part, none_gathered, gathered, unless_faulty, certificate, at_number}
+use Rattle.pg_cert_files.proofs.Common.{AllByRecursion, ltb-false, or_parts, nat_tests}
+use Rattle.pg_cert_files.proofs.Common.{length-append, All-from_recursion, sum_by_push, Bytes}
+use Rattle.pg_cert_files.proofs.Common.{number, lines, IsNode, IsClaim, IsOfVersion, IsWithinLimits}
+use Rattle.pg_cert_files.proofs.Common.{node_count, Version, Part, Node, Claim, Cert, has_bar}
+use Rattle.pg_cert_files.proofs.Common.{node_line, version_of, head_of, count_of, Fault, Head}
+use Rattle.pg_cert_files.proofs.Common.{ok_is, err_not, then_ok, chosen, done, HasBody, IsRead}
+use Rattle.pg_cert_files.proofs.Common.{node_ok}
+use Rattle.pg_cert_files.specs.CertFile.{Step, headed, claimed, claim_step, numbered, counted}
+use Rattle.pg_cert_files.specs.CertFile.{behind, node_step, step_due, step, Seen, nothing, listed}
+use Rattle.pg_cert_files.specs.CertFile.{taken, goes_on, after, seen, end_fault, or_at_end}
+use Rattle.pg_cert_files.specs.CertFile.{fault_of, text_version, text_parts, Gathered, last_claim}
+use Rattle.pg_cert_files.specs.CertFile.{closed, with_part, none_gathered, gathered, unless_faulty}
+use Rattle.pg_cert_files.specs.CertFile.{certificate, at_number}
 use Rattle.pg_cert_lines.specs.declared.fault.Fault.TheVariants as faults
 use Rattle.pg_cert.specs.declared.part.Part.TheVariants as parts
 use Rattle.pg_cert_files.specs.declared.progress.Due.{Due}

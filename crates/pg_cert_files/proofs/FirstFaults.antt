@@ -1,8 +1,11 @@
 -- The first fault of a file.
-use Rattle.std.proofs.Common.{◌≡◌, ℕ, suc, ◌+◌, ◌⊎◌, inl, inr, List, [], ◌∷◌, ◌++◌, length, arith, refl, sym, ap, ◌∙◌, Option, Some, None, Result, Ok, Err}
+use Rattle.std.proofs.Common.{◌≡◌, ℕ, suc, ◌+◌, ◌⊎◌, inl, inr, List, [], ◌∷◌, ◌++◌, length, arith}
+use Rattle.std.proofs.Common.{refl, sym, ap, ◌∙◌, Option, Some, None, Result, Ok, Err}
 use Rattle.std.specs.Prelude.{fold, nat_lt}
 use Rattle.pg_cert_files.proofs.Common.{ltb-true, Bytes, lines, Version, Part, Cert, Fault, chosen}
-use Rattle.pg_cert_files.specs.CertFile.{Step, Seen, nothing, taken, after, seen, step, end_fault, at_number, or_at_end, fault_of, text_version, text_parts, unless_faulty, certificate}
+use Rattle.pg_cert_files.specs.CertFile.{Step, Seen, nothing, taken, after, seen, step, end_fault}
+use Rattle.pg_cert_files.specs.CertFile.{at_number, or_at_end, fault_of, text_version, text_parts}
+use Rattle.pg_cert_files.specs.CertFile.{unless_faulty, certificate}
 use Rattle.pg_cert_files.specs.FirstFault.{IsFaultOfLine, IsFaultOfEnd, IsFirstFault}
 use Rattle.pg_cert_lines.specs.declared.fault.Fault.TheVariants as faults
 use Rattle.pg_cert_files.proofs.Stands.{after_none, after_some}

@@ -1,7 +1,10 @@
 -- How a text that grows is cut into lines.
-use Rattle.std.proofs.Common.{◌≡◌, ℕ, ◌<◌, length, arith, Bool, true, false, List, [], ◌∷◌, ◌++◌, refl, sym, ap, ◌∙◌, append_assoc}
+use Rattle.std.proofs.Common.{◌≡◌, ℕ, ◌<◌, length, arith, Bool, true, false, List, [], ◌∷◌, ◌++◌}
+use Rattle.std.proofs.Common.{refl, sym, ap, ◌∙◌, append_assoc}
 use Rattle.std.specs.Prelude.{◌==◌, fold}
-use Rattle.pg_cert_files.proofs.Common.{AllByRecursion, slice_split, onto_first, length-slice_split, slice_split-cons_yes, slice_split-cons_no, append-nil, fold-append, Bytes, Lacks, is_feed, recursion_from_All}
+use Rattle.pg_cert_files.proofs.Common.{AllByRecursion, slice_split, onto_first, length-slice_split}
+use Rattle.pg_cert_files.proofs.Common.{slice_split-cons_yes, slice_split-cons_no, append-nil}
+use Rattle.pg_cert_files.proofs.Common.{fold-append, Bytes, Lacks, is_feed, recursion_from_All}
 use Rattle.pg_cert_files.specs.Lines.{Cut, with_byte, cut}
 use Rattle.pg_cert_files.specs.CertFile.{Seen, nothing, after, seen}
 use Rattle.pg_cert_files.specs.Reader.{told}

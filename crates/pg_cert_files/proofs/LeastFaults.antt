@@ -1,9 +1,14 @@
 -- The fault of a line is the first of its table that applies.
-use Rattle.std.proofs.Common.{◌≡◌, ℕ, ◌+◌, true, false, ◌||◌, inl, inr, [], ◌∷◌, refl, sym, ap, ◌∙◌, Option, Some, None, Result, Ok, Err}
+use Rattle.std.proofs.Common.{◌≡◌, ℕ, ◌+◌, true, false, ◌||◌, inl, inr, [], ◌∷◌, refl, sym, ap, ◌∙◌}
+use Rattle.std.proofs.Common.{Option, Some, None, Result, Ok, Err}
 use Rattle.std.specs.Prelude.{◌==◌, nat_lt, nat_le, not, is_none, is_err}
-use Rattle.pg_cert_files.proofs.Common.{and_then, least, Bytes, number, Version, has_bar, Shape, shape_of, node_of, formed, node_line, version_of, head_of, count_of, Fault, Head, chosen}
-use Rattle.pg_cert_files.specs.CertFile.{headed, claimed, claim_step, numbered, counted, behind, step_due, step}
-use Rattle.pg_cert_files.specs.FirstFault.{counted_number, is_no_count, is_too_many, has_wrong_number, line_faults}
+use Rattle.pg_cert_files.proofs.Common.{and_then, least, Bytes, number, Version, has_bar, Shape}
+use Rattle.pg_cert_files.proofs.Common.{shape_of, node_of, formed, node_line, version_of, head_of}
+use Rattle.pg_cert_files.proofs.Common.{count_of, Fault, Head, chosen}
+use Rattle.pg_cert_files.specs.CertFile.{headed, claimed, claim_step, numbered, counted, behind}
+use Rattle.pg_cert_files.specs.CertFile.{step_due, step}
+use Rattle.pg_cert_files.specs.FirstFault.{counted_number, is_no_count, is_too_many}
+use Rattle.pg_cert_files.specs.FirstFault.{has_wrong_number, line_faults}
 use Rattle.pg_cert_lines.specs.declared.fault.Fault.TheVariants as faults
 use Rattle.pg_cert_lines.specs.declared.form.Form.{Form}
 use Rattle.pg_cert.specs.declared.part.Part.TheVariants as parts

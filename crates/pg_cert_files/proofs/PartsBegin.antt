@@ -1,20 +1,34 @@
 -- The parts that lines make begin those of a certificate within the limits, and at a good end they
 -- are all of them.
-use Rattle.std.proofs.Common.{◌≡◌, ℕ, zero, suc, ◌+◌, ◌-◌, ◌<◌, ◌≤◌, cond, ◌||◌, inl, inr, List, [], ◌∷◌, ◌++◌, length, map, arith, refl, sym, ap, subst, ◌∙◌, append_assoc, Option, Some, None, Ok, Err}
+use Rattle.std.proofs.Common.{◌≡◌, ℕ, zero, suc, ◌+◌, ◌-◌, ◌<◌, ◌≤◌, cond, ◌||◌, inl, inr, List, []}
+use Rattle.std.proofs.Common.{◌∷◌, ◌++◌, length, map, arith, refl, sym, ap, subst, ◌∙◌}
+use Rattle.std.proofs.Common.{append_assoc, Option, Some, None, Ok, Err}
 use Rattle.std.specs.Prelude.{◌==◌, nat_lt, nat_le, fold}
-use Rattle.pg_cert_files.proofs.Common.{empty, contains-empty, AllByRecursion, nat_cmp, nat_tests, append-nil, length-append, map-append, All-from_recursion, sum_by_push, fold-append, X, Bytes, number, lines, IsNode, IsClaim, IsOfVersion, IsWithinLimits, claim_parts, all_parts, BeginCert, Cert, Claim, Version, One, Two, Node, Part, has_bar, version_of, head_of, count_of, node_line, Fault, Head, ok_is, err_not, then_ok, chosen, done}
+use Rattle.pg_cert_files.proofs.Common.{empty, contains-empty, AllByRecursion, nat_cmp, nat_tests}
+use Rattle.pg_cert_files.proofs.Common.{append-nil, length-append, map-append, All-from_recursion}
+use Rattle.pg_cert_files.proofs.Common.{sum_by_push, fold-append, X, Bytes, number, lines, IsNode}
+use Rattle.pg_cert_files.proofs.Common.{IsClaim, IsOfVersion, IsWithinLimits, claim_parts}
+use Rattle.pg_cert_files.proofs.Common.{all_parts, BeginCert, Cert, Claim, Version, One, Two, Node}
+use Rattle.pg_cert_files.proofs.Common.{Part, has_bar, version_of, head_of, count_of, node_line}
+use Rattle.pg_cert_files.proofs.Common.{Fault, Head, ok_is, err_not, then_ok, chosen, done}
 use Rattle.std.proofs.lemmas.Grind.{flat_map-append}
 use Rattle.pg_base.specs.declared.goal.Goal.TheVariants.{Win}
 use Rattle.pg_cert.specs.declared.node.Body.TheVariants.{Over}
 use Rattle.pg_cert.specs.declared.part.Part.TheVariants as parts
-use Rattle.pg_cert_files.specs.CertFile.{Step, headed, claimed, claim_step, numbered, counted, behind, node_step, step_due, step, Seen, nothing, listed, taken, goes_on, after, seen, end_fault, or_at_end, Gathered, last_claim, closed, with_part, none_gathered, gathered, fault_of, text_parts}
+use Rattle.pg_cert_files.specs.CertFile.{Step, headed, claimed, claim_step, numbered, counted}
+use Rattle.pg_cert_files.specs.CertFile.{behind, node_step, step_due, step, Seen, nothing, listed}
+use Rattle.pg_cert_files.specs.CertFile.{taken, goes_on, after, seen, end_fault, or_at_end}
+use Rattle.pg_cert_files.specs.CertFile.{Gathered, last_claim, closed, with_part, none_gathered}
+use Rattle.pg_cert_files.specs.CertFile.{gathered, fault_of, text_parts}
 use Rattle.pg_cert_files.specs.Reader.{told}
 use Rattle.pg_cert_lines.specs.declared.fault.Fault.TheVariants as faults
 use Rattle.pg_cert_files.specs.declared.progress.Due.{Due}
 use Rattle.pg_cert_files.specs.declared.progress.Due.TheVariants as due
 use Rattle.pg_cert_files.specs.declared.progress.Progress.{Progress}
 use Rattle.pg_cert_files.proofs.WholeFile.{gathered_more, gathered_none}
-use Rattle.pg_cert_files.proofs.CertLimits.{HasNodeBody, AreTold, AreComing, IsSound, Next, IsSeen, sound_after, sound_seen, told_within, push_each, claim_with, behind_more, none_at}
+use Rattle.pg_cert_files.proofs.CertLimits.{HasNodeBody, AreTold, AreComing, IsSound, Next, IsSeen}
+use Rattle.pg_cert_files.proofs.CertLimits.{sound_after, sound_seen, told_within, push_each}
+use Rattle.pg_cert_files.proofs.CertLimits.{claim_with, behind_more, none_at}
 
 -- ---- the parts by what was gathered of them
 

@@ -1,7 +1,10 @@
 -- A file that is read whole: a reader is fed all of it, and the parts are gathered.
-use Rattle.std.proofs.Common.{◌≡◌, ℕ, ◌-◌, ◌≤◌, List, ◌++◌, length, take, drop, arith, sym, ap, subst, ◌∙◌, append_assoc, Option, refl, Ok, Err}
+use Rattle.std.proofs.Common.{◌≡◌, ℕ, ◌-◌, ◌≤◌, List, ◌++◌, length, take, drop, arith, sym, ap}
+use Rattle.std.proofs.Common.{subst, ◌∙◌, append_assoc, Option, refl, Ok, Err}
 use Rattle.std.specs.Prelude.{fold}
-use Rattle.pg_cert_files.proofs.Common.{append-nil, nil_from_length, take_all, length-drop, take-append-drop, Bytes, FileError, IsWithinLimits, all_parts, Claim, Version, Cert, Part, IsReadAs}
+use Rattle.pg_cert_files.proofs.Common.{append-nil, nil_from_length, take_all, length-drop}
+use Rattle.pg_cert_files.proofs.Common.{take-append-drop, Bytes, FileError, IsWithinLimits}
+use Rattle.pg_cert_files.proofs.Common.{all_parts, Claim, Version, Cert, Part, IsReadAs}
 use Rattle.pg_text.specs.declared.error.FileError.TheVariants as outcomes
 use Rattle.pg_cert_files.specs.CertFile.{Gathered, with_part, gathered, closed, listed, certificate}
 use Rattle.pg_cert_files.specs.Gatherer.{view}

@@ -1,13 +1,19 @@
 -- What a reader stands for after a step.
-use Rattle.std.proofs.Common.{◌≡◌, ℕ, ◌+◌, ◌-◌, ◌<◌, take, length, arith, true, false, List, [], ◌∷◌, ◌++◌, refl, sym, ap, subst, ◌∙◌, append_assoc, Option, Some, None, Ok, Err}
+use Rattle.std.proofs.Common.{◌≡◌, ℕ, ◌+◌, ◌-◌, ◌<◌, take, length, arith, true, false, List, []}
+use Rattle.std.proofs.Common.{◌∷◌, ◌++◌, refl, sym, ap, subst, ◌∙◌, append_assoc, Option, Some}
+use Rattle.std.proofs.Common.{None, Ok, Err}
 use Rattle.std.specs.Prelude.{IfNone, is_some}
-use Rattle.pg_cert_files.proofs.Common.{Vec, append-nil, length-append, take-append_seam, Bytes, Lacks, without_empty_end, lines, Part, without_empty_end-append, one_line, number_of, Fault}
+use Rattle.pg_cert_files.proofs.Common.{Vec, append-nil, length-append, take-append_seam, Bytes}
+use Rattle.pg_cert_files.proofs.Common.{Lacks, without_empty_end, lines, Part}
+use Rattle.pg_cert_files.proofs.Common.{without_empty_end-append, one_line, number_of, Fault}
 use Rattle.pg_cert_files.specs.Lines.{Cut, cut}
-use Rattle.pg_cert_files.specs.CertFile.{Seen, nothing, step, taken, after, seen, listed, outcome, at_number, end_fault, fault_of, text_parts}
+use Rattle.pg_cert_files.specs.CertFile.{Seen, nothing, step, taken, after, seen, listed, outcome}
+use Rattle.pg_cert_files.specs.CertFile.{at_number, end_fault, fault_of, text_parts}
 use Rattle.pg_cert_files.specs.Reader.{StandsFor, told, IsBad}
 use Rattle.pg_cert_files.specs.declared.progress.Progress.{Progress}
 use Rattle.pg_cert_files.specs.declared.reader.LineReader.{LineReader}
-use Rattle.pg_cert_files.proofs.Growing.{cut_add, cut_feed, told_add, told_feed, told_line, rest_line, cut_is_split}
+use Rattle.pg_cert_files.proofs.Growing.{cut_add, cut_feed, told_add, told_feed, told_line}
+use Rattle.pg_cert_files.proofs.Growing.{rest_line, cut_is_split}
 
 pub stands_new : (v : Vec ℕ)
     → v.items ≡ []

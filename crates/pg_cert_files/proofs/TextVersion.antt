@@ -1,9 +1,15 @@
 -- The version of a text whose end is reached is that of its whole lines.
-use Rattle.std.proofs.Common.{◌≡◌, ℕ, ◌+◌, ◌-◌, cond, ◌⊎◌, inl, inr, List, [], ◌∷◌, length, arith, refl, sym, ap, subst, ◌∙◌, Option, Some, None, Result, Ok, Err}
+use Rattle.std.proofs.Common.{◌≡◌, ℕ, ◌+◌, ◌-◌, cond, ◌⊎◌, inl, inr, List, [], ◌∷◌, length, arith}
+use Rattle.std.proofs.Common.{refl, sym, ap, subst, ◌∙◌, Option, Some, None, Result, Ok, Err}
 use Rattle.std.specs.Prelude.{◌==◌, ◌||◌, nat_lt, nat_le}
-use Rattle.pg_cert_files.proofs.Common.{cases_lt, Bytes, number, lines, Cert, Version, Part, has_bar, version_of, head_of, count_of, node_line, Fault, Head, ok_is, err_not, then_ok, chosen, done}
+use Rattle.pg_cert_files.proofs.Common.{cases_lt, Bytes, number, lines, Cert, Version, Part}
+use Rattle.pg_cert_files.proofs.Common.{has_bar, version_of, head_of, count_of, node_line, Fault}
+use Rattle.pg_cert_files.proofs.Common.{Head, ok_is, err_not, then_ok, chosen, done}
 use Rattle.pg_cert.specs.declared.part.Part.TheVariants as parts
-use Rattle.pg_cert_files.specs.CertFile.{Step, headed, claimed, numbered, counted, behind, step_due, step, Seen, taken, after, seen, end_fault, at_number, or_at_end, outcome, gathered, fault_of, text_version, text_parts, unless_faulty, certificate}
+use Rattle.pg_cert_files.specs.CertFile.{Step, headed, claimed, numbered, counted, behind, step_due}
+use Rattle.pg_cert_files.specs.CertFile.{step, Seen, taken, after, seen, end_fault, at_number}
+use Rattle.pg_cert_files.specs.CertFile.{or_at_end, outcome, gathered, fault_of, text_version}
+use Rattle.pg_cert_files.specs.CertFile.{text_parts, unless_faulty, certificate}
 use Rattle.pg_cert_files.specs.Lines.{cut}
 use Rattle.pg_cert_files.specs.Pieces.{IsFed}
 use Rattle.pg_cert_files.specs.Reader.{told}

@@ -1,8 +1,11 @@
 -- A file that is read whole.
-use Rattle.std.proofs.Common.{◌≡◌, ℕ, ◌<◌, ◌≤◌, true, false, List, [], ◌++◌, length, arith, refl, Option, Some, None, Result, Ok, Err}
+use Rattle.std.proofs.Common.{◌≡◌, ℕ, ◌<◌, ◌≤◌, true, false, List, [], ◌++◌, length, arith, refl}
+use Rattle.std.proofs.Common.{Option, Some, None, Result, Ok, Err}
 use Rattle.std.specs.Prelude.{fold, nat_lt, IsErrAnd}
-use Rattle.pg_cert_files.proofs.Common.{nat_tests, fold-append, Bytes, Version, Part, Claim, Cert, number_of, Fault}
-use Rattle.pg_cert_files.specs.CertFile.{with_part, none_gathered, gathered, fault_of, text_version, text_parts, unless_faulty, certificate}
+use Rattle.pg_cert_files.proofs.Common.{nat_tests, fold-append, Bytes, Version, Part, Claim, Cert}
+use Rattle.pg_cert_files.proofs.Common.{number_of, Fault}
+use Rattle.pg_cert_files.specs.CertFile.{with_part, none_gathered, gathered, fault_of, text_version}
+use Rattle.pg_cert_files.specs.CertFile.{text_parts, unless_faulty, certificate}
 use Rattle.pg_cert_files.specs.Reader.{IsBad}
 use Rattle.pg_cert_lines.specs.declared.fault.Fault.TheVariants as faults
 

@@ -1,9 +1,14 @@
 -- A text that grows, within the limit of a file and past it.
-use Rattle.std.proofs.Common.{◌≡◌, ℕ, ◌+◌, ◌-◌, ◌<◌, ◌≤◌, true, false, inl, inr, List, [], ◌++◌, length, take, arith, refl, sym, ap, subst, ◌∙◌, Option, Some, None, Result, Ok, Err}
+use Rattle.std.proofs.Common.{◌≡◌, ℕ, ◌+◌, ◌-◌, ◌<◌, ◌≤◌, true, false, inl, inr, List, [], ◌++◌}
+use Rattle.std.proofs.Common.{length, take, arith, refl, sym, ap, subst, ◌∙◌, Option, Some, None}
+use Rattle.std.proofs.Common.{Result, Ok, Err}
 use Rattle.std.specs.Prelude.{nat_lt, is_some, IfOk, IfSome, IfNone, IsErrAnd}
-use Rattle.pg_cert_files.proofs.Common.{cases_lt, nat_tests, append-nil, take_all, length-append, length-take-le, take-append-le, take-take, take-append-add, Bytes, Part, BeginCert, FileError, number_of, Fault}
+use Rattle.pg_cert_files.proofs.Common.{cases_lt, nat_tests, append-nil, take_all, length-append}
+use Rattle.pg_cert_files.proofs.Common.{length-take-le, take-append-le, take-take, take-append-add}
+use Rattle.pg_cert_files.proofs.Common.{Bytes, Part, BeginCert, FileError, number_of, Fault}
 use Rattle.pg_text.specs.declared.error.FileError.TheVariants as outcomes
-use Rattle.pg_cert_files.specs.CertFile.{listed, fault_of, file_fault, text_version, text_parts, gathered, closed, unless_faulty, certificate}
+use Rattle.pg_cert_files.specs.CertFile.{listed, fault_of, file_fault, text_version, text_parts}
+use Rattle.pg_cert_files.specs.CertFile.{gathered, closed, unless_faulty, certificate}
 use Rattle.pg_cert_files.specs.Lines.{cut}
 use Rattle.pg_cert_files.specs.Reader.{StandsFor, told, IsBad, IsLinesEnd}
 use Rattle.pg_cert_files.specs.Pieces.{parts_told, size_of, IsFed, IsEnd}

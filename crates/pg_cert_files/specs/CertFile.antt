@@ -1,6 +1,10 @@
 -- Certificate files: which line is due, what each line adds, and the first fault.
-use Rattle.std.specs.Prelude.{ℕ, ◌+◌, ◌-◌, ◌||◌, nat_lt, nat_le, ◌==◌, if◌then◌else◌, List, [], ◌∷◌, ◌++◌, length, Option, Some, None, Result, Ok, Err, fold}
-use Rattle.pg_cert_files.specs.Prelude.{and_then, Bytes, number, lines, Version, One, Part, Node, Claim, Cert, MAX_CLAIMS, MAX_CLAIM_NODES, MAX_NODES, has_bar, node_line, version_of, head_of, count_of, Fault, Head}
+use Rattle.std.specs.Prelude.{ℕ, ◌+◌, ◌-◌, ◌||◌, nat_lt, nat_le, ◌==◌, if◌then◌else◌, List, [], ◌∷◌}
+use Rattle.std.specs.Prelude.{◌++◌, length, Option, Some, None, Result, Ok, Err, fold}
+use Rattle.pg_cert_files.specs.Prelude.{and_then, Bytes, number, lines, Version, One, Part, Node}
+use Rattle.pg_cert_files.specs.Prelude.{Claim, Cert, MAX_CLAIMS, MAX_CLAIM_NODES, MAX_NODES}
+use Rattle.pg_cert_files.specs.Prelude.{has_bar, node_line, version_of, head_of, count_of, Fault}
+use Rattle.pg_cert_files.specs.Prelude.{Head}
 use Rattle.pg_cert_lines.specs.declared.fault.Fault.TheVariants as faults
 use Rattle.pg_cert.specs.declared.part.Part.TheVariants as parts
 use Rattle.pg_cert_files.specs.declared.progress.Due.{Due}

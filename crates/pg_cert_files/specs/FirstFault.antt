@@ -1,6 +1,10 @@
 -- What the first fault of a file is, in words of its lines.
-use Rattle.std.specs.Prelude.{◌≡◌, ℕ, ◌+◌, ◌<◌, ◌⊎◌, ◌||◌, ◌==◌, Bool, true, false, not, nat_lt, nat_le, is_none, is_err, List, [], ◌∷◌, ◌++◌, length, Option, Some, None, Err}
-use Rattle.pg_cert_files.specs.Prelude.{Bytes, number, lines, least, MAX_CLAIMS, MAX_CLAIM_NODES, MAX_NODES, has_bar, Shape, shape_of, node_of, version_of, head_of, count_of, Fault}
+use Rattle.std.specs.Prelude.{◌≡◌, ℕ, ◌+◌, ◌<◌, ◌⊎◌, ◌||◌, ◌==◌, Bool, true, false, not, nat_lt}
+use Rattle.std.specs.Prelude.{nat_le, is_none, is_err, List, [], ◌∷◌, ◌++◌, length, Option, Some}
+use Rattle.std.specs.Prelude.{None, Err}
+use Rattle.pg_cert_files.specs.Prelude.{Bytes, number, lines, least, MAX_CLAIMS, MAX_CLAIM_NODES}
+use Rattle.pg_cert_files.specs.Prelude.{MAX_NODES, has_bar, Shape, shape_of, node_of, version_of}
+use Rattle.pg_cert_files.specs.Prelude.{head_of, count_of, Fault}
 use Rattle.pg_cert_files.specs.declared.limits.TheConstants.{MAX_CERT_BYTES}
 use Rattle.pg_cert_files.specs.CertFile.{seen, step, end_fault}
 use Rattle.pg_cert_lines.specs.declared.fault.Fault.TheVariants as faults

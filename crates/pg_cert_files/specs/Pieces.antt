@@ -1,6 +1,8 @@
 -- What a reader of a certificate that comes in pieces stands for.
-use Rattle.std.specs.Prelude.{◌≡◌, ℕ, ◌+◌, ◌≤◌, nat_lt, if◌then◌else◌, List, ◌++◌, length, take, Option, Result, Ok, Err, IsErrAnd}
-use Rattle.pg_cert_files.specs.Prelude.{Bytes, FileError, IsWithinLimits, parts_of, Cert, Part, number_of}
+use Rattle.std.specs.Prelude.{◌≡◌, ℕ, ◌+◌, ◌≤◌, nat_lt, if◌then◌else◌, List, ◌++◌, length, take}
+use Rattle.std.specs.Prelude.{Option, Result, Ok, Err, IsErrAnd}
+use Rattle.pg_cert_files.specs.Prelude.{Bytes, FileError, IsWithinLimits, parts_of, Cert, Part}
+use Rattle.pg_cert_files.specs.Prelude.{number_of}
 use Rattle.pg_text.specs.declared.error.FileError.TheVariants as outcomes
 use Rattle.pg_cert_files.specs.CertFile.{certificate, listed}
 use Rattle.pg_cert_files.specs.Reader.{StandsFor, told}

@@ -20,9 +20,11 @@ pub use Rattle.pg_cert.specs.declared.node.Node.{Node}
 pub use Rattle.pg_cert.specs.declared.part.Part.{Part}
 pub use Rattle.pg_cert_lines.specs.ClaimLine.{count_of_two, version_of}
 unfoldable pub use Rattle.pg_cert_lines.specs.ClaimLine.{count_of, head_of}
-pub use Rattle.pg_cert_lines.specs.Form.{Shape, each_has_one, has_bar, turn_of, with_body, with_form}
+pub use Rattle.pg_cert_lines.specs.Form.{Shape, each_has_one, has_bar, turn_of, with_body}
+pub use Rattle.pg_cert_lines.specs.Form.{with_form}
 unfoldable pub use Rattle.pg_cert_lines.specs.Form.{shape_of}
-pub use Rattle.pg_cert_lines.specs.NodeLine.{ascending_of, field_words, formed, node_of, node_with, word_pair}
+pub use Rattle.pg_cert_lines.specs.NodeLine.{ascending_of, field_words, formed, node_of, node_with}
+pub use Rattle.pg_cert_lines.specs.NodeLine.{word_pair}
 unfoldable pub use Rattle.pg_cert_lines.specs.NodeLine.{node_line}
 pub use Rattle.pg_cert_lines.specs.Views.{IsReadAs, number_of}
 pub use Rattle.pg_cert_lines.specs.declared.fault.Fault.{Fault}
@@ -38,5 +40,6 @@ pub use Rattle.pg_text.specs.declared.error.LineError.{LineError}
 pub use Rattle.std.specs.FinSet.{FinSet, contains, contains-empty, empty, from_list, insert}
 pub use Rattle.std.specs.Fmt.{decimal}
 pub use Rattle.std.specs.Global.{Vec}
-pub use Rattle.std.specs.List.{AllByRecursion, flat_map, join_with_byte, list_all, list_any, onto_first, slice_split}
+pub use Rattle.std.specs.List.{AllByRecursion, flat_map, join_with_byte, list_all, list_any}
+pub use Rattle.std.specs.List.{onto_first, slice_split}
 pub use Rattle.std.specs.Ordering.{nat_cmp}

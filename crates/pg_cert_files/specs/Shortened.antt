@@ -1,7 +1,9 @@
 -- Certificates whose pairs are cut short where two of them share a point: in no game are such pairs
 -- a pairing, so neither the pairs behind these nor which points they share count.
-use Rattle.std.specs.Prelude.{◌≡◌, ℕ, ◌+◌, ◌≤◌, ◌||◌, Bool, false, if◌then◌else◌, List, [], ◌∷◌, ◌++◌, length, map, Option, Result, Ok, Err, option_map}
-use Rattle.pg_cert_files.specs.Prelude.{list_any, Bytes, lines, Pair, has_point, Cert, Claim, Body, Node, Part, Fault}
+use Rattle.std.specs.Prelude.{◌≡◌, ℕ, ◌+◌, ◌≤◌, ◌||◌, Bool, false, if◌then◌else◌, List, [], ◌∷◌}
+use Rattle.std.specs.Prelude.{◌++◌, length, map, Option, Result, Ok, Err, option_map}
+use Rattle.pg_cert_files.specs.Prelude.{list_any, Bytes, lines, Pair, has_point, Cert, Claim, Body}
+use Rattle.pg_cert_files.specs.Prelude.{Node, Part, Fault}
 use Rattle.pg_cert.specs.declared.node.Body.TheVariants as bodies
 use Rattle.pg_cert.specs.declared.part.Part.TheVariants as parts
 use Rattle.pg_cert_files.specs.CertFile.{Seen, seen, outcome, unless_faulty}

@@ -1,6 +1,9 @@
 -- A line of pairs of which some may be left out.
-use Rattle.std.specs.Prelude.{◌≡◌, ℕ, ◌+◌, ◌<◌, true, List, ◌++◌, ◌∷◌, length, Option, Result, Ok, Err, option_map, codes}
-use Rattle.pg_cert_files.specs.Prelude.{FinSet, contains, nat_cmp, Pair, BAR, SPACE, is_paired, each_of, Bytes, Lacks, parts, each_has_one, word_pair, HYPHEN}
+use Rattle.std.specs.Prelude.{◌≡◌, ℕ, ◌+◌, ◌<◌, true, List, ◌++◌, ◌∷◌, length, Option, Result, Ok}
+use Rattle.std.specs.Prelude.{Err, option_map, codes}
+use Rattle.pg_cert_files.specs.Prelude.{FinSet, contains, nat_cmp, Pair, BAR, SPACE, is_paired}
+use Rattle.pg_cert_files.specs.Prelude.{each_of, Bytes, Lacks, parts, each_has_one, word_pair}
+use Rattle.pg_cert_files.specs.Prelude.{HYPHEN}
 use Rattle.pg_cert_files.specs.CertFile.{Step, node_step}
 use Rattle.pg_cert_files.specs.Reader.{StandsFor, told}
 use Rattle.pg_cert_files.specs.Shortened.{AreAlike, clash, short_part}

@@ -1,11 +1,19 @@
 -- Numbers at the front of a text.
-use Rattle.std.proofs.Common.{◌≡◌, ℕ, zero, suc, ◌+◌, ◌-◌, ◌*◌, ◌^◌, ◌<◌, ◌≤◌, lit<, Bool, true, false, ◌||◌, [], ◌∷◌, ◌++◌, length, take, drop, get_or, arith, refl, sym, ap, subst, ◌∙◌, append_assoc, inl, inr, Option, Some, None}
+use Rattle.std.proofs.Common.{◌≡◌, ℕ, zero, suc, ◌+◌, ◌-◌, ◌*◌, ◌^◌, ◌<◌, ◌≤◌, lit<, Bool, true}
+use Rattle.std.proofs.Common.{false, ◌||◌, [], ◌∷◌, ◌++◌, length, take, drop, get_or, arith, refl}
+use Rattle.std.proofs.Common.{sym, ap, subst, ◌∙◌, append_assoc, inl, inr, Option, Some, None}
 use Rattle.std.specs.Prelude.{◌==◌, ◌≢◌, not, nat_lt, nat_le, slice_index}
-use Rattle.pg_cert_lines.proofs.Common.{is_ascii_digit, list_all, AllByRecursion, digits_value, cases_Bool, and_parts, eqb-true, nat_tests, take_all, length-take-le, length-drop, take-append-drop, All-from_recursion, list_all_more, drop-cons, Bytes, Lacks, parts, words_of, number, MAX_DIGITS, just_two, first_and_others, only_word, all_append}
+use Rattle.pg_cert_lines.proofs.Common.{is_ascii_digit, list_all, AllByRecursion, digits_value}
+use Rattle.pg_cert_lines.proofs.Common.{cases_Bool, and_parts, eqb-true, nat_tests, take_all}
+use Rattle.pg_cert_lines.proofs.Common.{length-take-le, length-drop, take-append-drop}
+use Rattle.pg_cert_lines.proofs.Common.{All-from_recursion, list_all_more, drop-cons, Bytes, Lacks}
+use Rattle.pg_cert_lines.proofs.Common.{parts, words_of, number, MAX_DIGITS, just_two}
+use Rattle.pg_cert_lines.proofs.Common.{first_and_others, only_word, all_append}
 use Rattle.std.proofs.lemmas.Int.Digits.{digits_value_more, digits_value-lt}
 use Rattle.std.proofs.Math.Nat.{pow-le-pow_right}
 use Rattle.pg_text.proofs.Digits.{digit, digit_value_is, digits_from}
-use Rattle.pg_cert_lines.specs.Numerals.{BeginsWith, IsLeading, with_others, IsFirstNumber, IsNumberBefore, AreTwoNumbers}
+use Rattle.pg_cert_lines.specs.Numerals.{BeginsWith, IsLeading, with_others, IsFirstNumber}
+use Rattle.pg_cert_lines.specs.Numerals.{IsNumberBefore, AreTwoNumbers}
 
 -- one digit more
 pub grows : (text : Bytes) (count value d : ℕ)

@@ -1,10 +1,16 @@
 -- Points that are put into a set as they are read make the set of the list of these points.
-use Rattle.std.proofs.Common.{◌≡◌, ◌∙◌, append_assoc, ℕ, ◌+◌, Bool, true, false, not, ◌&&◌, ◌||◌, nat_lt, if◌then◌else◌, List, [], ◌∷◌, ◌++◌, Result, Ok, Err, refl, sym, ap, inl, inr, arith}
+use Rattle.std.proofs.Common.{◌≡◌, ◌∙◌, append_assoc, ℕ, ◌+◌, Bool, true, false, not, ◌&&◌, ◌||◌}
+use Rattle.std.proofs.Common.{nat_lt, if◌then◌else◌, List, [], ◌∷◌, ◌++◌, Result, Ok, Err, refl}
+use Rattle.std.proofs.Common.{sym, ap, inl, inr, arith}
 use Rattle.std.specs.Prelude.{nat_le}
-use Rattle.pg_cert_lines.proofs.Common.{FinSet, contains, contains-empty, empty, insert, from_list, from_list_push, nat_cmp-IsAntisymmetric, nat_cmp, cases_Bool, append-nil, nat_tests, and_then, onto, each_of, Bytes, ascend_from, is_touched, Body, Node}
+use Rattle.pg_cert_lines.proofs.Common.{FinSet, contains, contains-empty, empty, insert, from_list}
+use Rattle.pg_cert_lines.proofs.Common.{from_list_push, nat_cmp-IsAntisymmetric, nat_cmp}
+use Rattle.pg_cert_lines.proofs.Common.{cases_Bool, append-nil, nat_tests, and_then, onto, each_of}
+use Rattle.pg_cert_lines.proofs.Common.{Bytes, ascend_from, is_touched, Body, Node}
 use Rattle.std.specs.Cmp.{nat_cmp_total}
 use Rattle.pg_cert_lines.specs.Form.{Shape}
-use Rattle.pg_cert_lines.specs.NodeLine.{point_of, if_ascending, ascending_of, field_words, node_with}
+use Rattle.pg_cert_lines.specs.NodeLine.{point_of, if_ascending, ascending_of, field_words}
+use Rattle.pg_cert_lines.specs.NodeLine.{node_with}
 use Rattle.pg_cert_lines.specs.Outline.{gathered_from, read_fields}
 use Rattle.pg_cert_lines.specs.declared.fault.Fault.{Fault}
 use Rattle.pg_cert_lines.specs.declared.fault.Fault.TheVariants as faults

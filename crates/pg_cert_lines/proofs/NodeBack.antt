@@ -1,24 +1,43 @@
 -- A printed node line is read again as the same node.
-use Rattle.std.proofs.Common.{◌≡◌, ℕ, zero, suc, ◌+◌, ◌-◌, ◌%◌, ◌<◌, ◌≤◌, lit<, Bool, true, false, inl, inr, List, [], ◌∷◌, ◌++◌, length, map, arith, refl, sym, ap, subst, ◌∙◌, Option, Some, Result, Ok}
+use Rattle.std.proofs.Common.{◌≡◌, ℕ, zero, suc, ◌+◌, ◌-◌, ◌%◌, ◌<◌, ◌≤◌, lit<, Bool, true, false}
+use Rattle.std.proofs.Common.{inl, inr, List, [], ◌∷◌, ◌++◌, length, map, arith, refl, sym, ap}
+use Rattle.std.proofs.Common.{subst, ◌∙◌, Option, Some, Result, Ok}
 use Rattle.std.specs.Prelude.{◌==◌, nat_lt, nat_le, codes, is_some, slice_index}
-use Rattle.pg_cert_lines.proofs.Common.{FinSet, contains, from_list, decimal, list_any, AllByRecursion, nat_cmp, cases_Bool, or_right, false≢true, nat_tests, length-map, length-append, All-from_recursion, recursion_from_All, and_then, Side}
+use Rattle.pg_cert_lines.proofs.Common.{FinSet, contains, from_list, decimal, list_any}
+use Rattle.pg_cert_lines.proofs.Common.{AllByRecursion, nat_cmp, cases_Bool, or_right, false≢true}
+use Rattle.pg_cert_lines.proofs.Common.{nat_tests, length-map, length-append, All-from_recursion}
+use Rattle.pg_cert_lines.proofs.Common.{recursion_from_All, and_then, Side}
 use Rattle.std.specs.List.Sorted.{IsStrictlyIncreasing}
 use Rattle.std.proofs.lemmas.Fmt.{decimal_is_IsNumeral, decimal_digit}
 use Rattle.pg_base.specs.declared.side.Side.TheVariants as sides
-use Rattle.pg_cert_lines.proofs.Common.{Pair, Bytes, Lacks, parts, two_parts, four_parts, spaced, behind_spaces, is_touched, ArePoints, IsReply, IsPair, IsBody, IsTurn, IsNode, has_body, ascend_from, side_word, set_words, reply_word, pair_word, edge_words, body_name, body_words, body_text, turn_word}
+use Rattle.pg_cert_lines.proofs.Common.{Pair, Bytes, Lacks, parts, two_parts, four_parts, spaced}
+use Rattle.pg_cert_lines.proofs.Common.{behind_spaces, is_touched, ArePoints, IsReply, IsPair}
+use Rattle.pg_cert_lines.proofs.Common.{IsBody, IsTurn, IsNode, has_body, ascend_from, side_word}
+use Rattle.pg_cert_lines.proofs.Common.{set_words, reply_word, pair_word, edge_words, body_name}
+use Rattle.pg_cert_lines.proofs.Common.{body_words, body_text, turn_word}
 use Rattle.pg_base.specs.Points.{members}
-use Rattle.pg_base.proofs.MemberLemmas.{points_below-each, points_below-small, points_below-ascend, from_list-points_below}
-use Rattle.pg_cert_lines.specs.Form.{has_form, named_form, of_version, form_of, are_odd, each_has_one, is_slash, has_one_slash, fits, Shape, with_fields, turn_of, shape_of}
-use Rattle.pg_cert_lines.specs.NodeLine.{ascending_of, field_words, reply_of, points_pair, word_reply, word_pair, is_e, begins_with_e, after_e, before_slash, after_slash, edges_with, edges_of, body_of, node_of, node_line}
+use Rattle.pg_base.proofs.MemberLemmas.{points_below-each, points_below-small, points_below-ascend}
+use Rattle.pg_base.proofs.MemberLemmas.{from_list-points_below}
+use Rattle.pg_cert_lines.specs.Form.{has_form, named_form, of_version, form_of, are_odd}
+use Rattle.pg_cert_lines.specs.Form.{each_has_one, is_slash, has_one_slash, fits, Shape}
+use Rattle.pg_cert_lines.specs.Form.{with_fields, turn_of, shape_of}
+use Rattle.pg_cert_lines.specs.NodeLine.{ascending_of, field_words, reply_of, points_pair}
+use Rattle.pg_cert_lines.specs.NodeLine.{word_reply, word_pair, is_e, begins_with_e, after_e}
+use Rattle.pg_cert_lines.specs.NodeLine.{before_slash, after_slash, edges_with, edges_of, body_of}
+use Rattle.pg_cert_lines.specs.NodeLine.{node_of, node_line}
 use Rattle.pg_cert_lines.specs.declared.fault.Fault.{Fault}
 use Rattle.pg_cert_lines.specs.declared.form.Form.{Form}
 use Rattle.pg_cert_lines.specs.declared.form.Form.TheVariants as forms
 use Rattle.pg_cert_lines.proofs.Common.{Version, One, Two, Body}
 use Rattle.pg_cert.specs.declared.node.Body.TheVariants as bodies
-use Rattle.pg_cert_lines.proofs.Common.{Node, Reply, just_two, four_three, all_append, all_map, decimal_not, two_decimals, IsPlain, IsQuiet, IsWord, decimal_is_word, word_quiet, spaced_quiet, words_spaced, quiet_text}
+use Rattle.pg_cert_lines.proofs.Common.{Node, Reply, just_two, four_three, all_append, all_map}
+use Rattle.pg_cert_lines.proofs.Common.{decimal_not, two_decimals, IsPlain, IsQuiet, IsWord}
+use Rattle.pg_cert_lines.proofs.Common.{decimal_is_word, word_quiet, spaced_quiet, words_spaced}
+use Rattle.pg_cert_lines.proofs.Common.{quiet_text}
 use Rattle.pg_cert_lines.specs.declared.values.Edges.{Edges}
 use Rattle.pg_cert_lines.proofs.NodeLimits.{odd_len, set_from, IsRead}
-use Rattle.pg_cert_lines.proofs.Words.{lacks_bar, point_decimal, child_decimal, each_back, points_back}
+use Rattle.pg_cert_lines.proofs.Words.{lacks_bar, point_decimal, child_decimal, each_back}
+use Rattle.pg_cert_lines.proofs.Words.{points_back}
 
 -- ---- sets
 

@@ -1,13 +1,27 @@
 -- A node that is read is within the limits.
-use Rattle.std.proofs.Common.{◌≡◌, ℕ, suc, ◌-◌, ◌%◌, ◌<◌, ◌≤◌, Bool, true, false, cond, ◌⊎◌, inl, inr, List, [], ◌∷◌, length, map, arith, refl, sym, ap, subst, ◌∙◌, Option, Some, None, Result, Ok, Err}
+use Rattle.std.proofs.Common.{◌≡◌, ℕ, suc, ◌-◌, ◌%◌, ◌<◌, ◌≤◌, Bool, true, false, cond, ◌⊎◌, inl}
+use Rattle.std.proofs.Common.{inr, List, [], ◌∷◌, length, map, arith, refl, sym, ap, subst, ◌∙◌}
+use Rattle.std.proofs.Common.{Option, Some, None, Result, Ok, Err}
 use Rattle.std.specs.Prelude.{IfOk, nat_lt, nat_le, nat_eq, not, ◌&&◌, ◌==◌, codes}
-use Rattle.pg_cert_lines.proofs.Common.{FinSet, contains, from_list, contains-from_list_nat, list_any, All, AllByRecursion, nat_cmp, bytes_eq, cases_Bool, ltb-true, or_cases, or_parts, false≢true, nat_tests, All-from_recursion, Vec, LineError, Gives, and_then, each_of, onto}
+use Rattle.pg_cert_lines.proofs.Common.{FinSet, contains, from_list, contains-from_list_nat}
+use Rattle.pg_cert_lines.proofs.Common.{list_any, All, AllByRecursion, nat_cmp, bytes_eq}
+use Rattle.pg_cert_lines.proofs.Common.{cases_Bool, ltb-true, or_cases, or_parts, false≢true}
+use Rattle.pg_cert_lines.proofs.Common.{nat_tests, All-from_recursion, Vec, LineError, Gives}
+use Rattle.pg_cert_lines.proofs.Common.{and_then, each_of, onto}
 use Rattle.pg_base.specs.declared.side.Side.TheVariants as sides
-use Rattle.pg_cert_lines.proofs.Common.{Pair, Bytes, Four, parts, pair_of, two_parts, four_parts, number, is_touched, ArePoints, IsReply, IsPair, IsBody, IsTurn, IsNode, has_body, ascend_from}
+use Rattle.pg_cert_lines.proofs.Common.{Pair, Bytes, Four, parts, pair_of, two_parts, four_parts}
+use Rattle.pg_cert_lines.proofs.Common.{number, is_touched, ArePoints, IsReply, IsPair, IsBody}
+use Rattle.pg_cert_lines.proofs.Common.{IsTurn, IsNode, has_body, ascend_from}
 use Rattle.pg_cert_lines.specs.declared.signs.TheConstants.{COLON, HYPHEN}
 use Rattle.pg_cert_lines.specs.declared.turn.TheConstants.{FEWEST, LETTER, MOST, ZERO}
-use Rattle.pg_cert_lines.specs.Form.{several_of, turn_of, has_form, named_form, of_version, form_of, only_word, are_odd, fits, Shape, with_form, with_body, with_fields, shape_of, has_bar}
-use Rattle.pg_cert_lines.specs.NodeLine.{below, point_of, child_of, both_of, if_ascending, ascending_of, field_words, reply_of, points_pair, move_of, weaker_of, word_reply, word_pair, replies_of, begins_with_e, after_e, before_slash, after_slash, edges_of, body_of, node_with, node_of, formed, node_line}
+use Rattle.pg_cert_lines.specs.Form.{several_of, turn_of, has_form, named_form, of_version, form_of}
+use Rattle.pg_cert_lines.specs.Form.{only_word, are_odd, fits, Shape, with_form, with_body}
+use Rattle.pg_cert_lines.specs.Form.{with_fields, shape_of, has_bar}
+use Rattle.pg_cert_lines.specs.NodeLine.{below, point_of, child_of, both_of, if_ascending}
+use Rattle.pg_cert_lines.specs.NodeLine.{ascending_of, field_words, reply_of, points_pair, move_of}
+use Rattle.pg_cert_lines.specs.NodeLine.{weaker_of, word_reply, word_pair, replies_of}
+use Rattle.pg_cert_lines.specs.NodeLine.{begins_with_e, after_e, before_slash, after_slash}
+use Rattle.pg_cert_lines.specs.NodeLine.{edges_of, body_of, node_with, node_of, formed, node_line}
 use Rattle.pg_cert_lines.specs.declared.fault.Fault.{Fault}
 use Rattle.pg_cert_lines.specs.declared.fault.Fault.TheVariants as faults
 use Rattle.pg_cert_lines.specs.declared.form.Form.{Form}

@@ -1,11 +1,17 @@
 -- A line of the right form can only have wrong numbers.
-use Rattle.std.proofs.Common.{◌≡◌, ℕ, ◌+◌, Bool, ◌||◌, inl, inr, List, [], ◌∷◌, map, refl, ◌∙◌, Option, Some, None, Result, Ok, Err}
+use Rattle.std.proofs.Common.{◌≡◌, ℕ, ◌+◌, Bool, ◌||◌, inl, inr, List, [], ◌∷◌, map, refl, ◌∙◌}
+use Rattle.std.proofs.Common.{Option, Some, None, Result, Ok, Err}
 use Rattle.std.specs.Prelude.{◌==◌, nat_lt}
-use Rattle.pg_cert_lines.proofs.Common.{from_list, cases_Bool, and_then, each_of, onto, Bytes, pair_of, two_parts, number, ascend_from, is_touched, Body}
+use Rattle.pg_cert_lines.proofs.Common.{from_list, cases_Bool, and_then, each_of, onto, Bytes}
+use Rattle.pg_cert_lines.proofs.Common.{pair_of, two_parts, number, ascend_from, is_touched, Body}
 use Rattle.pg_cert.specs.declared.node.Body.TheVariants as bodies
 use Rattle.pg_cert_lines.specs.declared.signs.TheConstants.{COLON, HYPHEN}
 use Rattle.pg_cert_lines.specs.Form.{only_word, Shape}
-use Rattle.pg_cert_lines.specs.NodeLine.{below, point_of, child_of, both_of, if_ascending, ascending_of, field_words, reply_of, points_pair, move_of, weaker_of, word_reply, word_pair, replies_of, begins_with_e, after_e, before_slash, after_slash, edges_with, edges_of, body_of, node_with, node_of}
+use Rattle.pg_cert_lines.specs.NodeLine.{below, point_of, child_of, both_of, if_ascending}
+use Rattle.pg_cert_lines.specs.NodeLine.{ascending_of, field_words, reply_of, points_pair, move_of}
+use Rattle.pg_cert_lines.specs.NodeLine.{weaker_of, word_reply, word_pair, replies_of}
+use Rattle.pg_cert_lines.specs.NodeLine.{begins_with_e, after_e, before_slash, after_slash}
+use Rattle.pg_cert_lines.specs.NodeLine.{edges_with, edges_of, body_of, node_with, node_of}
 use Rattle.pg_cert_lines.specs.declared.fault.Fault.{Fault}
 use Rattle.pg_cert_lines.specs.declared.fault.Fault.TheVariants as faults
 use Rattle.pg_cert_lines.specs.declared.form.Form.{Form}

@@ -1,14 +1,22 @@
 -- A line that is read by its outline is read as its form and its numbers say.
-use Rattle.std.proofs.Common.{◌≡◌, ◌∙◌, Bool, true, false, List, [], ◌∷◌, ◌++◌, ℕ, ◌+◌, ◌<◌, append_assoc, Result, Ok, Err, Option, Some, None, refl, sym, ap, subst, inl, inr, arith}
+use Rattle.std.proofs.Common.{◌≡◌, ◌∙◌, Bool, true, false, List, [], ◌∷◌, ◌++◌, ℕ, ◌+◌, ◌<◌}
+use Rattle.std.proofs.Common.{append_assoc, Result, Ok, Err, Option, Some, None, refl, sym, ap}
+use Rattle.std.proofs.Common.{subst, inl, inr, arith}
 use Rattle.std.specs.Prelude.{nat_lt, ◌||◌, ◌==◌, option_map, ◌&&◌, if◌then◌else◌}
-use Rattle.pg_cert_lines.proofs.Common.{list_any, AllByRecursion, Bor, FinSet, contains, insert, nat_cmp, cases_Bool, or_parts, nat_tests, append-nil, All-from_recursion, Version, Body, Node}
+use Rattle.pg_cert_lines.proofs.Common.{list_any, AllByRecursion, Bor, FinSet, contains, insert}
+use Rattle.pg_cert_lines.proofs.Common.{nat_cmp, cases_Bool, or_parts, nat_tests, append-nil}
+use Rattle.pg_cert_lines.proofs.Common.{All-from_recursion, Version, Body, Node}
 use Rattle.pg_cert_lines.proofs.Common.{and_then, onto, each_of, following}
 use Rattle.pg_cert_lines.proofs.Common.{four_none, Bytes, Four, parts, four_parts, words_of}
 use Rattle.pg_cert_lines.specs.declared.signs.TheConstants.{COLON, HYPHEN}
-use Rattle.pg_cert_lines.specs.Form.{has_bar, form_of, turn_of, each_has_one, fits, Shape, with_form, with_body, with_fields, shape_of}
-use Rattle.pg_cert_lines.specs.NodeLine.{point_of, ascending_of, field_words, word_reply, word_pair, body_of, node_with, formed, node_line}
+use Rattle.pg_cert_lines.specs.Form.{has_bar, form_of, turn_of, each_has_one, fits, Shape}
+use Rattle.pg_cert_lines.specs.Form.{with_form, with_body, with_fields, shape_of}
+use Rattle.pg_cert_lines.specs.NodeLine.{point_of, ascending_of, field_words, word_reply, word_pair}
+use Rattle.pg_cert_lines.specs.NodeLine.{body_of, node_with, formed, node_line}
 use Rattle.pg_cert_lines.specs.Numerals.{IsFirstNumber, AreTwoNumbers, SaysFirst}
-use Rattle.pg_cert_lines.specs.Outline.{outline_form, outline_body, outline_fields, outline_of, formed_each, IsFirstPoint, gathered_from, read_fields, read_node}
+use Rattle.pg_cert_lines.specs.Outline.{outline_form, outline_body, outline_fields, outline_of}
+use Rattle.pg_cert_lines.specs.Outline.{formed_each, IsFirstPoint, gathered_from, read_fields}
+use Rattle.pg_cert_lines.specs.Outline.{read_node}
 use Rattle.pg_cert_lines.specs.declared.fault.Fault.{Fault}
 use Rattle.pg_cert_lines.specs.declared.fault.Fault.TheVariants as faults
 use Rattle.pg_cert_lines.specs.declared.form.Form.{Form}

@@ -1,7 +1,8 @@
 -- The bar stands in no printed text of words, and printed points are read again.
 use Rattle.std.proofs.Common.{◌≡◌, ℕ, ◌<◌, true, false, List, [], ◌∷◌, map, arith, refl}
 use Rattle.std.specs.Prelude.{◌==◌, nat_lt, Result, Ok}
-use Rattle.pg_cert_lines.proofs.Common.{decimal, AllByRecursion, nat_tests, All-from_recursion, each_of, Bytes, Lacks, all_of, number_decimal, IsQuiet}
+use Rattle.pg_cert_lines.proofs.Common.{decimal, AllByRecursion, nat_tests, All-from_recursion}
+use Rattle.pg_cert_lines.proofs.Common.{each_of, Bytes, Lacks, all_of, number_decimal, IsQuiet}
 use Rattle.pg_cert_lines.specs.NodeLine.{point_of, child_of}
 use Rattle.pg_cert_lines.specs.declared.fault.Fault.{Fault}
 

@@ -1,6 +1,8 @@
 -- The form of a node line, save for its numbers.
-use Rattle.std.specs.Prelude.{ℕ, ◌-◌, Bool, true, false, not, ◌&&◌, nat_le, ◌==◌, if◌then◌else◌, List, [], ◌∷◌, Option, Some, None, is_some, codes}
-use Rattle.pg_cert_lines.specs.Prelude.{list_all, list_any, bytes_eq, BAR, SPACE, X, Y, Version, One, Bytes, Four, parts, pair_of, two_parts, four_parts}
+use Rattle.std.specs.Prelude.{ℕ, ◌-◌, Bool, true, false, not, ◌&&◌, nat_le, ◌==◌, if◌then◌else◌}
+use Rattle.std.specs.Prelude.{List, [], ◌∷◌, Option, Some, None, is_some, codes}
+use Rattle.pg_cert_lines.specs.Prelude.{list_all, list_any, bytes_eq, BAR, SPACE, X, Y, Version}
+use Rattle.pg_cert_lines.specs.Prelude.{One, Bytes, Four, parts, pair_of, two_parts, four_parts}
 use Rattle.pg_cert_lines.specs.declared.signs.TheConstants.{COLON, HYPHEN}
 use Rattle.pg_cert_lines.specs.declared.form.Form.{Form}
 use Rattle.pg_cert_lines.specs.declared.form.Form.TheVariants as forms

@@ -1,6 +1,9 @@
 -- What a node line says.
-use Rattle.std.specs.Prelude.{ℕ, Bool, false, not, nat_lt, ◌==◌, if◌then◌else◌, List, [], ◌∷◌, length, map, Option, Some, None, Result, Ok, Err, codes}
-use Rattle.pg_cert_lines.specs.Prelude.{bytes_eq, from_list, SPACE, and_then, each_of, MAX_MEMBERS, Pair, Bytes, parts, pair_of, two_parts, number, ascend_from, is_touched, MAX_CLAIM_NODES, Version}
+use Rattle.std.specs.Prelude.{ℕ, Bool, false, not, nat_lt, ◌==◌, if◌then◌else◌, List, [], ◌∷◌}
+use Rattle.std.specs.Prelude.{length, map, Option, Some, None, Result, Ok, Err, codes}
+use Rattle.pg_cert_lines.specs.Prelude.{bytes_eq, from_list, SPACE, and_then, each_of, MAX_MEMBERS}
+use Rattle.pg_cert_lines.specs.Prelude.{Pair, Bytes, parts, pair_of, two_parts, number, ascend_from}
+use Rattle.pg_cert_lines.specs.Prelude.{is_touched, MAX_CLAIM_NODES, Version}
 use Rattle.pg_cert_lines.specs.declared.signs.TheConstants.{COLON, HYPHEN}
 use Rattle.pg_cert_lines.specs.Form.{has_bar, only_word, is_slash, Shape, shape_of}
 use Rattle.pg_cert_lines.specs.declared.fault.Fault.{Fault}

@@ -1,6 +1,8 @@
 -- Numbers that stand at the front of a text, and the word that they make.
-use Rattle.std.specs.Prelude.{◌≡◌, ℕ, ◌≤◌, true, is_some, ◌∷◌, ◌++◌, length, take, Option, Some, None, Result, Ok}
-use Rattle.pg_cert_lines.specs.Prelude.{is_ascii_digit, list_all, digits_value, SPACE, Bytes, parts, words_of, number, two_parts, MAX_DIGITS}
+use Rattle.std.specs.Prelude.{◌≡◌, ℕ, ◌≤◌, true, is_some, ◌∷◌, ◌++◌, length, take, Option, Some}
+use Rattle.std.specs.Prelude.{None, Result, Ok}
+use Rattle.pg_cert_lines.specs.Prelude.{is_ascii_digit, list_all, digits_value, SPACE, Bytes, parts}
+use Rattle.pg_cert_lines.specs.Prelude.{words_of, number, two_parts, MAX_DIGITS}
 use Rattle.pg_cert_lines.specs.declared.fault.Fault.{Fault}
 
 -- the text begins with so many digits, which write the number

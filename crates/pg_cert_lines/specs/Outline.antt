@@ -1,9 +1,12 @@
 -- A node line that is cut where its signs stand, and read once: the body first, since its form
 -- comes before its numbers.
-use Rattle.std.specs.Prelude.{◌≡◌, ℕ, ◌+◌, ◌||◌, nat_lt, if◌then◌else◌, List, [], ◌∷◌, map, Option, Some, None, option_map, Result, Ok, Err}
-use Rattle.pg_cert_lines.specs.Prelude.{Bor, FinSet, contains, empty, insert, nat_cmp, BAR, SPACE, Version, Body, Node, Part}
+use Rattle.std.specs.Prelude.{◌≡◌, ℕ, ◌+◌, ◌||◌, nat_lt, if◌then◌else◌, List, [], ◌∷◌, map, Option}
+use Rattle.std.specs.Prelude.{Some, None, option_map, Result, Ok, Err}
+use Rattle.pg_cert_lines.specs.Prelude.{Bor, FinSet, contains, empty, insert, nat_cmp, BAR, SPACE}
+use Rattle.pg_cert_lines.specs.Prelude.{Version, Body, Node, Part}
 use Rattle.pg_cert.specs.declared.part.Part.TheVariants as part
-use Rattle.pg_cert_lines.specs.Prelude.{Reply, Fails, and_then, each_of, Bytes, Four, parts, four_parts, words_of, LineError}
+use Rattle.pg_cert_lines.specs.Prelude.{Reply, Fails, and_then, each_of, Bytes, Four, parts}
+use Rattle.pg_cert_lines.specs.Prelude.{four_parts, words_of, LineError}
 use Rattle.pg_cert_lines.specs.declared.signs.TheConstants.{COLON}
 use Rattle.pg_cert_lines.specs.Form.{form_of, turn_of, each_has_one, fits, Shape}
 use Rattle.pg_cert_lines.specs.NodeLine.{point_of, field_words, if_ascending, word_reply, body_of}

@@ -1,7 +1,12 @@
 -- One part more, by what stands for the parts before.
-use Rattle.std.proofs.Common.{◌≡◌, ◌∙◌, ℕ, zero, suc, ◌+◌, ◌<◌, ◌≤◌, List, [], ◌∷◌, ◌++◌, length, map, drop, take, false, true, Option, Some, None, refl, sym, ap, subst, arith}
+use Rattle.std.proofs.Common.{◌≡◌, ◌∙◌, ℕ, zero, suc, ◌+◌, ◌<◌, ◌≤◌, List, [], ◌∷◌, ◌++◌, length}
+use Rattle.std.proofs.Common.{map, drop, take, false, true, Option, Some, None, refl, sym, ap}
+use Rattle.std.proofs.Common.{subst, arith}
 use Rattle.std.specs.Prelude.{is_some}
-use Rattle.pg_check.proofs.Common.{slice_get_within, Game, Position, length-append, position_of, fault_number, IsSound, IsFirstFault, AreSoundBefore, IsValid, IsValidClaim, Cert, Claim, Node, NodeFault, IsWithinLimits, IsNode, all_parts, parts_of, Part}
+use Rattle.pg_check.proofs.Common.{slice_get_within, Game, Position, length-append, position_of}
+use Rattle.pg_check.proofs.Common.{fault_number, IsSound, IsFirstFault, AreSoundBefore, IsValid}
+use Rattle.pg_check.proofs.Common.{IsValidClaim, Cert, Claim, Node, NodeFault, IsWithinLimits}
+use Rattle.pg_check.proofs.Common.{IsNode, all_parts, parts_of, Part}
 use Rattle.pg_check.specs.Checking.{AreValidBefore, IsInHand, AreNext, Stands, StandsFor}
 use Rattle.pg_check.specs.Tester.{IsReadyFor}
 use Rattle.pg_check.specs.declared.checking.Checking.{Checking}

@@ -1,5 +1,6 @@
 -- Sound nodes and valid claims, one after the other.
-use Rattle.std.proofs.Common.{◌≡◌, ◌∙◌, ℕ, ◌+◌, ◌<◌, ◌≤◌, List, length, Some, slice_get, sym, subst, inl, inr, arith}
+use Rattle.std.proofs.Common.{◌≡◌, ◌∙◌, ℕ, ◌+◌, ◌<◌, ◌≤◌, List, length, Some, slice_get, sym, subst}
+use Rattle.std.proofs.Common.{inl, inr, arith}
 use Rattle.pg_check.proofs.Common.{cases_eq, slice_get_within}
 
 -- what holds of every member before k, and of the member at k, holds of every member before k + 1

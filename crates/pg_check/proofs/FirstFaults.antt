@@ -1,6 +1,7 @@
 -- A valid certificate has no first fault, and any other has one at most.
 use Rattle.std.proofs.Common.{◌≡◌, ◌∙◌, ℕ, ◌<◌, Some, slice_get, sym, subst, inl, inr, arith}
-use Rattle.pg_check.proofs.Common.{cases_order, Game, Cert, Claim, Node, AreSoundBefore, IsFirstFault, IsLeastFault, IsValid}
+use Rattle.pg_check.proofs.Common.{cases_order, Game, Cert, Claim, Node, AreSoundBefore}
+use Rattle.pg_check.proofs.Common.{IsFirstFault, IsLeastFault, IsValid}
 
 pub no_fault : (g : Game) (c : Cert) → IsValid g c → (i k w : ℕ) → IsFirstFault g c i k w → ⊥
 no_fault g c valid i k w h =

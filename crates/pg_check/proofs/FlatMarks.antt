@@ -1,7 +1,16 @@
 -- The rows of positions in few words.
-use Rattle.pg_check.proofs.Common.{FinSet, range_with_len, nat_cmp, cases_eq, false≢true, append_assoc, append-nil, length-append, length-take-le, length-drop, get_or_append_left, get_or-append-add, get_or-drop, get_or-take, slice_get-get_or, slice_get_within, AreBelow, word_of, words_of, word_below-lt, word_of-members, members-of_words, members-same, is_same_side, Side, X, Y, point_count, Game, Position}
+use Rattle.pg_check.proofs.Common.{FinSet, range_with_len, nat_cmp, cases_eq, false≢true}
+use Rattle.pg_check.proofs.Common.{append_assoc, append-nil, length-append, length-take-le}
+use Rattle.pg_check.proofs.Common.{length-drop, get_or_append_left, get_or-append-add, get_or-drop}
+use Rattle.pg_check.proofs.Common.{get_or-take, slice_get-get_or, slice_get_within, AreBelow}
+use Rattle.pg_check.proofs.Common.{word_of, words_of, word_below-lt, word_of-members}
+use Rattle.pg_check.proofs.Common.{members-of_words, members-same, is_same_side, Side, X, Y}
+use Rattle.pg_check.proofs.Common.{point_count, Game, Position}
 use lib.Pointwise.{pointwise}
-use Rattle.std.proofs.Common.{Bool, true, false, IsTrue, nat_eq, zero, ◌≡◌, ◌∙◌, ℕ, suc, ◌+◌, ◌*◌, ◌^◌, ◌<◌, ◌≤◌, List, [], ◌∷◌, ◌++◌, length, map, take, drop, get_or, Some, slice_get, refl, sym, ap, ap₂, subst, inl, inr, arith, ext_get_or}
+use Rattle.std.proofs.Common.{Bool, true, false, IsTrue, nat_eq, zero, ◌≡◌, ◌∙◌, ℕ, suc, ◌+◌, ◌*◌}
+use Rattle.std.proofs.Common.{◌^◌, ◌<◌, ◌≤◌, List, [], ◌∷◌, ◌++◌, length, map, take, drop, get_or}
+use Rattle.std.proofs.Common.{Some, slice_get, refl, sym, ap, ap₂, subst, inl, inr, arith}
+use Rattle.std.proofs.Common.{ext_get_or}
 use Rattle.std.specs.Cmp.Lexicographic.{same_text, other_text}
 use Rattle.std.proofs.Math.Nat.{mul-suc, mul-le-mul_left}
 use Rattle.std.proofs.Math.Seq.{get_or-append_seam}

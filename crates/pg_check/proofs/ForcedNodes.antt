@@ -1,13 +1,28 @@
 -- Every node of a valid claim is forced, by induction on its number.
-use Rattle.std.proofs.Common.{◌≡◌, ◌∙◌, ℕ, zero, suc, ◌+◌, ◌<◌, true, ◌&&◌, ◌==◌, List, [], ◌∷◌, Some, slice_get, length, map, get_or, refl, sym, ap, subst, inl, inr, arith, eqb, eqb-true, eq-eqb}
-use Rattle.pg_check.proofs.Common.{list_any, FinSet, nat_cmp, get_or_default, slice_get_within, slice_get-get_or, cases_Bool, and_parts, false≢true, Goal, Kind, MakerBreaker, MakerMaker, AvoiderEnforcer, Switching, Side, X, Y, Game, Position, is_free, point_count, free_points, after, with_turn, IsPosition, Forces, may_attack, IsThreatLine, Forces-threat, TreesHold, CutsHold, Claim, Cert, Node, Body, Over, Move, Pairs, Potential, Trees, Cuts, Threat, Weaker, Reply, position_of, IsTurn, IsNode, IsClaim, IsWithinLimits, is_allowed, shows_defence, shows_trees, shows_cuts, pairs_fit, allows_weaker, IsInGame, NamesEarlier, IsNodeOf, FollowsMove, FollowMoves, HasTurn, TakesFree, EndsRight, PotentialFits, with_e_named, HasPairs, HasPotential, HasTrees, HasCuts, HasThreat, HasWeaker, IsOwed, IsSound, IsValidClaim, IsValid}
+use Rattle.std.proofs.Common.{◌≡◌, ◌∙◌, ℕ, zero, suc, ◌+◌, ◌<◌, true, ◌&&◌, ◌==◌, List, [], ◌∷◌}
+use Rattle.std.proofs.Common.{Some, slice_get, length, map, get_or, refl, sym, ap, subst, inl, inr}
+use Rattle.std.proofs.Common.{arith, eqb, eqb-true, eq-eqb}
+use Rattle.pg_check.proofs.Common.{list_any, FinSet, nat_cmp, get_or_default, slice_get_within}
+use Rattle.pg_check.proofs.Common.{slice_get-get_or, cases_Bool, and_parts, false≢true, Goal, Kind}
+use Rattle.pg_check.proofs.Common.{MakerBreaker, MakerMaker, AvoiderEnforcer, Switching, Side, X, Y}
+use Rattle.pg_check.proofs.Common.{Game, Position, is_free, point_count, free_points, after}
+use Rattle.pg_check.proofs.Common.{with_turn, IsPosition, Forces, may_attack, IsThreatLine}
+use Rattle.pg_check.proofs.Common.{Forces-threat, TreesHold, CutsHold, Claim, Cert, Node, Body}
+use Rattle.pg_check.proofs.Common.{Over, Move, Pairs, Potential, Trees, Cuts, Threat, Weaker, Reply}
+use Rattle.pg_check.proofs.Common.{position_of, IsTurn, IsNode, IsClaim, IsWithinLimits, is_allowed}
+use Rattle.pg_check.proofs.Common.{shows_defence, shows_trees, shows_cuts, pairs_fit, allows_weaker}
+use Rattle.pg_check.proofs.Common.{IsInGame, NamesEarlier, IsNodeOf, FollowsMove, FollowMoves}
+use Rattle.pg_check.proofs.Common.{HasTurn, TakesFree, EndsRight, PotentialFits, with_e_named}
+use Rattle.pg_check.proofs.Common.{HasPairs, HasPotential, HasTrees, HasCuts, HasThreat, HasWeaker}
+use Rattle.pg_check.proofs.Common.{IsOwed, IsSound, IsValidClaim, IsValid}
 use Rattle.std.specs.List.{All as Each}
 use Rattle.pg_base.specs.declared.goal.Goal.TheVariants.{Win, Draw as AtLeastDraw}
 use Rattle.pg_base.specs.declared.pair.Pair.{Pair}
 use Rattle.pg_game.specs.Pairs.{PairsHold}
 use Rattle.pg_game.proofs.ValueLaws.{Forces-over, Forces-move, Forces-all, Forces-any}
 use Rattle.pg_game.proofs.FreePoints.{any-free_points}
-use Rattle.pg_pairing.proofs.PairLaws.{Forces-pairs_breaker, Forces-pairs_draw, Forces-pairs_avoider}
+use Rattle.pg_pairing.proofs.PairLaws.{Forces-pairs_breaker, Forces-pairs_draw}
+use Rattle.pg_pairing.proofs.PairLaws.{Forces-pairs_avoider}
 use Rattle.pg_potential.proofs.PotentialLaws.{Forces-potential_breaker, Forces-potential_draw}
 use Rattle.pg_avoider.proofs.AvoiderLaws.{Forces-avoider}
 use Rattle.pg_switch.proofs.SwitchLaws.{Forces-trees, Forces-cuts}

@@ -1,7 +1,15 @@
 -- What is known of a claim by its nodes so far decides as the claim does.
-use Rattle.std.proofs.Common.{◌≡◌, ◌∙◌, ◌↔◌, ℕ, ◌+◌, ◌<◌, zero, suc, true, List, [], ◌∷◌, ◌++◌, map, take, get_or, Option, Some, None, slice_get, refl, sym, ap, subst, arith}
+use Rattle.std.proofs.Common.{◌≡◌, ◌∙◌, ◌↔◌, ℕ, ◌+◌, ◌<◌, zero, suc, true, List, [], ◌∷◌, ◌++◌, map}
+use Rattle.std.proofs.Common.{take, get_or, Option, Some, None, slice_get, refl, sym, ap, subst}
+use Rattle.std.proofs.Common.{arith}
 use Rattle.std.specs.Prelude.{option_map}
-use Rattle.pg_check.proofs.Common.{slice_get-map, slice_get_within, slice_get-get_or, take_more, map_push, Side, Game, Position, IsNoWorse, Claim, Node, Body, Over, Move, Pairs, Potential, Trees, Cuts, Threat, Weaker, NodeFault, position_of, fault_number, is_allowed, IsNodeOf, NamesEarlier, Owes, HasTurn, TakesFree, EndsRight, HasPairs, HasPotential, HasTrees, HasCuts, HasThreat, FollowsMove, FollowMoves, HasWeaker, Passes, IsSound, IsLeastFault}
+use Rattle.pg_check.proofs.Common.{slice_get-map, slice_get_within, slice_get-get_or, take_more}
+use Rattle.pg_check.proofs.Common.{map_push, Side, Game, Position, IsNoWorse, Claim, Node, Body}
+use Rattle.pg_check.proofs.Common.{Over, Move, Pairs, Potential, Trees, Cuts, Threat, Weaker}
+use Rattle.pg_check.proofs.Common.{NodeFault, position_of, fault_number, is_allowed, IsNodeOf}
+use Rattle.pg_check.proofs.Common.{NamesEarlier, Owes, HasTurn, TakesFree, EndsRight, HasPairs}
+use Rattle.pg_check.proofs.Common.{HasPotential, HasTrees, HasCuts, HasThreat, FollowsMove}
+use Rattle.pg_check.proofs.Common.{FollowMoves, HasWeaker, Passes, IsSound, IsLeastFault}
 use Rattle.pg_cert.specs.declared.node.Body.TheVariants.{All}
 use Rattle.pg_cert.specs.declared.node_fault.NodeFault.TheVariants as faults
 use Rattle.pg_check.specs.Marks.{kept}

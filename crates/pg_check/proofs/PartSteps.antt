@@ -1,5 +1,6 @@
 -- The next part of a certificate, by what is left of its parts.
-use Rattle.std.proofs.Common.{◌≡◌, ℕ, zero, suc, ◌≤◌, List, [], ◌∷◌, ◌++◌, length, map, drop, Some, slice_get, refl, ap, arith}
+use Rattle.std.proofs.Common.{◌≡◌, ℕ, zero, suc, ◌≤◌, List, [], ◌∷◌, ◌++◌, length, map, drop, Some}
+use Rattle.std.proofs.Common.{slice_get, refl, ap, arith}
 use Rattle.pg_check.proofs.Common.{Goal, Side, Claim, Node, all_parts, Part}
 use Rattle.pg_cert.specs.declared.part.Part.TheVariants as parts
 

@@ -1,6 +1,9 @@
 -- Replies against the free points, one after the other.
-use Rattle.std.proofs.Common.{◌≡◌, ◌≢◌, ℕ, suc, ◌+◌, ◌-◌, ◌<◌, ◌≤◌, true, false, List, [], ◌∷◌, map, length, get_or, drop, refl, sym, ap, subst, inl, inr, ◌∙◌, arith, drop-cons}
-use Rattle.pg_check.proofs.Common.{filter, range_with_len, cases_eq, drop_all, get_or_default, Game, Position, is_free, point_count, free_points, Reply}
+use Rattle.std.proofs.Common.{◌≡◌, ◌≢◌, ℕ, suc, ◌+◌, ◌-◌, ◌<◌, ◌≤◌, true, false, List, [], ◌∷◌, map}
+use Rattle.std.proofs.Common.{length, get_or, drop, refl, sym, ap, subst, inl, inr, ◌∙◌, arith}
+use Rattle.std.proofs.Common.{drop-cons}
+use Rattle.pg_check.proofs.Common.{filter, range_with_len, cases_eq, drop_all, get_or_default, Game}
+use Rattle.pg_check.proofs.Common.{Position, is_free, point_count, free_points, Reply}
 
 -- the points of the replies from a place on
 unfoldable pub points_from : List Reply → ℕ → List ℕ

@@ -1,12 +1,25 @@
 -- Threat lines by their rounds.
-use Rattle.std.proofs.Common.{◌≡◌, ◌↔◌, ℕ, zero, suc, ◌+◌, ◌-◌, ◌*◌, ◌/◌, ◌%◌, ◌<◌, ◌≤◌, Bool, true, false, ◌||◌, ◌==◌, nat_le, if◌then◌else◌, List, [], ◌∷◌, length, get_or, replicate, refl, sym, ap, ◌∙◌, subst, subst₂, inl, inr, arith, eqb-true}
+use Rattle.std.proofs.Common.{◌≡◌, ◌↔◌, ℕ, zero, suc, ◌+◌, ◌-◌, ◌*◌, ◌/◌, ◌%◌, ◌<◌, ◌≤◌, Bool, true}
+use Rattle.std.proofs.Common.{false, ◌||◌, ◌==◌, nat_le, if◌then◌else◌, List, [], ◌∷◌, length}
+use Rattle.std.proofs.Common.{get_or, replicate, refl, sym, ap, ◌∙◌, subst, subst₂, inl, inr, arith}
+use Rattle.std.proofs.Common.{eqb-true}
 use Rattle.std.specs.Prelude.{Option, Some, None}
-use Rattle.pg_check.proofs.Common.{cases_Bool, cases_lt, and_parts, and_from, or_cases, or_left, or_right, le-leb, leb-true, false≢true, is_some, Contains, list_any, list_all, FinSet, contains, nat_cmp, other, Side, Kind, MakerMaker, Game, Position, is_free, points_of, after, lines_of, has_filled, is_filled, is_over, is_on, is_near, may_attack, Forcing, Filling, LeadsToLine, true-at, false-at, list_any-one, list_any-none, member-from_any, free-of, unfilled-going}
+use Rattle.pg_check.proofs.Common.{cases_Bool, cases_lt, and_parts, and_from, or_cases, or_left}
+use Rattle.pg_check.proofs.Common.{or_right, le-leb, leb-true, false≢true, is_some, Contains}
+use Rattle.pg_check.proofs.Common.{list_any, list_all, FinSet, contains, nat_cmp, other, Side, Kind}
+use Rattle.pg_check.proofs.Common.{MakerMaker, Game, Position, is_free, points_of, after, lines_of}
+use Rattle.pg_check.proofs.Common.{has_filled, is_filled, is_over, is_on, is_near, may_attack}
+use Rattle.pg_check.proofs.Common.{Forcing, Filling, LeadsToLine, true-at, false-at, list_any-one}
+use Rattle.pg_check.proofs.Common.{list_any-none, member-from_any, free-of, unfilled-going}
 use Rattle.pg_base.specs.declared.score.Score.{Score}
 use Rattle.pg_check.specs.Lacked.{filled_but}
-use Rattle.pg_check.specs.Rounds.{attack_at, reply_at, before_round, attacked, AreRounds, taken_at, AreTimes, WasNear, IsSafe, AreForced, LacksLate, IsClear, IsAtMove}
+use Rattle.pg_check.specs.Rounds.{attack_at, reply_at, before_round, attacked, AreRounds, taken_at}
+use Rattle.pg_check.specs.Rounds.{AreTimes, WasNear, IsSafe, AreForced, LacksLate, IsClear}
+use Rattle.pg_check.specs.Rounds.{IsAtMove}
 use Rattle.pg_check.proofs.ThreatTests.{threatens-fills}
-use Rattle.pg_check.proofs.RoundSteps.{IsTurn, free-from, attack-stays, reply-stays, grows, theirs-attacked, mine-replied, filled-replied, theirs-unfilled}
+use Rattle.pg_check.proofs.RoundSteps.{IsTurn, free-from, attack-stays, reply-stays, grows}
+use Rattle.pg_check.proofs.RoundSteps.{theirs-attacked, mine-replied, filled-replied}
+use Rattle.pg_check.proofs.RoundSteps.{theirs-unfilled}
 
 -- ---- a list without its first round
 

@@ -1,8 +1,15 @@
 -- What a round changes, and the times at which points are taken.
-use Rattle.std.proofs.Common.{◌≡◌, ◌≢◌, ◌⊎◌, ℕ, zero, suc, ◌+◌, ◌<◌, ◌≤◌, true, false, List, length, get_or, set, sym, ap, ◌∙◌, subst, inl, inr, arith}
-use Rattle.pg_check.proofs.Common.{cases_eq, cases_lt, and_from, not_from_false, false≢true, length-set, get_or-set_same, get_or-set_other, contains, other, Side, X, Y, Game, Position, is_free, points_of, after, has_filled, IsPosition, other_other, points_of-waiter, points-stay, points-from, turn-alternates, free-of, free-was, IsPosition-after, filled-waits, unfilled-safe}
+use Rattle.std.proofs.Common.{◌≡◌, ◌≢◌, ◌⊎◌, ℕ, zero, suc, ◌+◌, ◌<◌, ◌≤◌, true, false, List, length}
+use Rattle.std.proofs.Common.{get_or, set, sym, ap, ◌∙◌, subst, inl, inr, arith}
+use Rattle.pg_check.proofs.Common.{cases_eq, cases_lt, and_from, not_from_false, false≢true}
+use Rattle.pg_check.proofs.Common.{length-set, get_or-set_same, get_or-set_other, contains, other}
+use Rattle.pg_check.proofs.Common.{Side, X, Y, Game, Position, is_free, points_of, after}
+use Rattle.pg_check.proofs.Common.{has_filled, IsPosition, other_other, points_of-waiter}
+use Rattle.pg_check.proofs.Common.{points-stay, points-from, turn-alternates, free-of, free-was}
+use Rattle.pg_check.proofs.Common.{IsPosition-after, filled-waits, unfilled-safe}
 use Rattle.std.proofs.Math.Numerals.{add-one}
-use Rattle.pg_check.specs.Rounds.{attack_at, reply_at, before_round, attacked, IsRound, AreRounds, AreTimes, IsSafe}
+use Rattle.pg_check.specs.Rounds.{attack_at, reply_at, before_round, attacked, IsRound, AreRounds}
+use Rattle.pg_check.specs.Rounds.{AreTimes, IsSafe}
 
 -- ---- tables
 

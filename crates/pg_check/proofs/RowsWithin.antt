@@ -1,6 +1,11 @@
 -- Sets in rows of words: one is within another where each word has all bits of the other's.
-use Rattle.std.proofs.Common.{Bool, true, false, not, ◌&&◌, ◌≡◌, ◌∙◌, ℕ, ◌+◌, ◌-◌, ◌*◌, ◌/◌, ◌%◌, ◌^◌, ◌<◌, ◌≤◌, List, get_or, length, take, drop, nat_eq, refl, sym, ap, subst, inl, inr, arith, lt-ltb, le-ltb, w64}
-use Rattle.pg_check.proofs.Common.{cases_lt, both_ways, length-drop, get_or-drop, take_all, FinSet, contains, nat_cmp, AreBelow, AreWithin, has_bit, members_below, words_of, in_members_below, has_bit-at, members-of_words, bit_test, bit_test-and, bit_test-not, zero-from_tests, cleared}
+use Rattle.std.proofs.Common.{Bool, true, false, not, ◌&&◌, ◌≡◌, ◌∙◌, ℕ, ◌+◌, ◌-◌, ◌*◌, ◌/◌, ◌%◌}
+use Rattle.std.proofs.Common.{◌^◌, ◌<◌, ◌≤◌, List, get_or, length, take, drop, nat_eq, refl, sym}
+use Rattle.std.proofs.Common.{ap, subst, inl, inr, arith, lt-ltb, le-ltb, w64}
+use Rattle.pg_check.proofs.Common.{cases_lt, both_ways, length-drop, get_or-drop, take_all, FinSet}
+use Rattle.pg_check.proofs.Common.{contains, nat_cmp, AreBelow, AreWithin, has_bit, members_below}
+use Rattle.pg_check.proofs.Common.{words_of, in_members_below, has_bit-at, members-of_words}
+use Rattle.pg_check.proofs.Common.{bit_test, bit_test-and, bit_test-not, zero-from_tests, cleared}
 use Rattle.std.proofs.lemmas.Nat.{and_le_l}
 use Rattle.std.proofs.lemmas.Nat.Bits.{bit_at-zero}
 use Rattle.std.specs.Int.{bit_not}

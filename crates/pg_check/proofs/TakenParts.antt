@@ -1,6 +1,9 @@
 -- Parts that come one after the other are those of a list.
-use Rattle.std.proofs.Common.{◌≡◌, ◌∙◌, ℕ, ◌+◌, ◌<◌, List, [], ◌∷◌, ◌++◌, map, length, take, drop, get_or, refl, sym, ap, subst}
-use Rattle.pg_check.proofs.Common.{append_assoc, append-nil, map-append, take_more, take-append-drop, claim_parts, all_parts, BeginCert, Claim, Node, Part}
+use Rattle.std.proofs.Common.{◌≡◌, ◌∙◌, ℕ, ◌+◌, ◌<◌, List, [], ◌∷◌, ◌++◌, map, length, take, drop}
+use Rattle.std.proofs.Common.{get_or, refl, sym, ap, subst}
+use Rattle.pg_check.proofs.Common.{append_assoc, append-nil, map-append, take_more}
+use Rattle.pg_check.proofs.Common.{take-append-drop, claim_parts, all_parts, BeginCert, Claim, Node}
+use Rattle.pg_check.proofs.Common.{Part}
 use Rattle.std.proofs.lemmas.Grind.{flat_map-append}
 use Rattle.pg_cert.specs.declared.part.Part.TheVariants as parts
 use Rattle.pg_check.specs.Checking.{StandsFor, AreNext}

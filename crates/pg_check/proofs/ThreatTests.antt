@@ -1,7 +1,15 @@
 -- Tests of lines that lack one point, and of threat lines.
 use Rattle.std.specs.Prelude.{IfSome, IfNone, Option, Some, None}
-use Rattle.std.proofs.Common.{◌≡◌, ℕ, zero, suc, ◌+◌, ◌<◌, ◌≤◌, Bool, true, false, cond, ◌||◌, ◌==◌, List, [], ◌∷◌, length, get_or, take, refl, sym, ap, ◌∙◌, subst, inl, inr, arith, eqb-true, eq-eqb, take_all}
-use Rattle.pg_check.proofs.Common.{is_some, cases_Bool, and_parts, and_from, or_cases, or_left, or_right, false≢true, Contains, count_by, list_any, list_all, FinSet, contains, insert, nat_cmp, Side, Game, Position, is_free, points_of, lines_of, is_filled, has_filled, is_on, is_near, threatens, IsAttack, true-at, false-at, list_any-none, list_any-one, member-from_any, free-of, near-from, near-to, near-range, filled-with, filled-without, on-or_filled}
+use Rattle.std.proofs.Common.{◌≡◌, ℕ, zero, suc, ◌+◌, ◌<◌, ◌≤◌, Bool, true, false, cond, ◌||◌, ◌==◌}
+use Rattle.std.proofs.Common.{List, [], ◌∷◌, length, get_or, take, refl, sym, ap, ◌∙◌, subst, inl}
+use Rattle.std.proofs.Common.{inr, arith, eqb-true, eq-eqb, take_all}
+use Rattle.pg_check.proofs.Common.{is_some, cases_Bool, and_parts, and_from, or_cases, or_left}
+use Rattle.pg_check.proofs.Common.{or_right, false≢true, Contains, count_by, list_any, list_all}
+use Rattle.pg_check.proofs.Common.{FinSet, contains, insert, nat_cmp, Side, Game, Position, is_free}
+use Rattle.pg_check.proofs.Common.{points_of, lines_of, is_filled, has_filled, is_on, is_near}
+use Rattle.pg_check.proofs.Common.{threatens, IsAttack, true-at, false-at, list_any-none}
+use Rattle.pg_check.proofs.Common.{list_any-one, member-from_any, free-of, near-from, near-to}
+use Rattle.pg_check.proofs.Common.{near-range, filled-with, filled-without, on-or_filled}
 use Rattle.std.proofs.lemmas.List.Folds.{list_any_more, list_all_more, list_any_kept}
 use Rattle.std.proofs.lemmas.List.Sums.{count_by_more_yes, sum_by-take-le, get_or-le-sum_by}
 use Rattle.std.specs.List.Sorted.{IsStrictlyIncreasing}

@@ -1,6 +1,9 @@
 -- What a checking that is fed part after part stands for.
-use Rattle.std.specs.Prelude.{◌≡◌, ℕ, ◌+◌, ◌<◌, ◌≤◌, List, ◌++◌, length, map, drop, slice_get, Option, Some, None, Result, Ok, Err}
-use Rattle.pg_check.specs.Prelude.{Game, IsWithinLimits, all_parts, parts_of, BeginCert, AreSoundBefore, IsFirstFault, IsValid, IsValidClaim, Cert, Claim, Part}
+use Rattle.std.specs.Prelude.{◌≡◌, ℕ, ◌+◌, ◌<◌, ◌≤◌, List, ◌++◌, length, map, drop, slice_get}
+use Rattle.std.specs.Prelude.{Option, Some, None, Result, Ok, Err}
+use Rattle.pg_check.specs.Prelude.{Game, IsWithinLimits, all_parts, parts_of, BeginCert}
+use Rattle.pg_check.specs.Prelude.{AreSoundBefore, IsFirstFault, IsValid, IsValidClaim, Cert, Claim}
+use Rattle.pg_check.specs.Prelude.{Part}
 use Rattle.pg_cert.specs.declared.part.Part.TheVariants as parts
 use Rattle.pg_check.specs.Marks.{kept, AreMarksOf}
 use Rattle.pg_check.specs.Present.{IsKnownOf}

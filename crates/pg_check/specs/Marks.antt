@@ -1,6 +1,8 @@
 -- Positions in few words.
-use Rattle.std.specs.Prelude.{◌≡◌, ℕ, ◌+◌, ◌*◌, ◌^◌, ◌<◌, ◌≤◌, List, length, map, drop, get_or, slice_get, Some}
-use Rattle.pg_check.specs.Prelude.{FinSet, range_with_len, nat_cmp, AreWithin, other, members_below, Side, X, Game, Position, point_count, points_of, IsNoWorse}
+use Rattle.std.specs.Prelude.{◌≡◌, ℕ, ◌+◌, ◌*◌, ◌^◌, ◌<◌, ◌≤◌, List, length, map, drop, get_or}
+use Rattle.std.specs.Prelude.{slice_get, Some}
+use Rattle.pg_check.specs.Prelude.{FinSet, range_with_len, nat_cmp, AreWithin, other, members_below}
+use Rattle.pg_check.specs.Prelude.{Side, X, Game, Position, point_count, points_of, IsNoWorse}
 use Rattle.pg_check.specs.declared.marks.Marks.{Marks}
 use Rattle.pg_check.specs.declared.marks.Turn.{Turn}
 

@@ -1,33 +1,44 @@
 -- What the definitions of this crate name of std and of the crates below.
 pub use Rattle.pg_base.specs.Points.{AreBelow, AreWithin, ShareNone}
 pub use Rattle.pg_base.specs.Side.{is_same_side, other}
-pub use Rattle.pg_base.specs.WordLemmas.{has_bit-at, in_members_below, members-of_words, members-same, word_below-lt, word_of-members}
+pub use Rattle.pg_base.specs.WordLemmas.{has_bit-at, in_members_below, members-of_words}
+pub use Rattle.pg_base.specs.WordLemmas.{members-same, word_below-lt, word_of-members}
 pub use Rattle.pg_base.specs.Words.{has_bit, members_below}
 unfoldable pub use Rattle.pg_base.specs.Words.{word_of, words_of}
 pub use Rattle.pg_base.specs.declared.goal.Goal.{Goal}
 pub use Rattle.pg_base.specs.declared.kind.Kind.{Kind}
-pub use Rattle.pg_base.specs.declared.kind.Kind.TheVariants.{AvoiderEnforcer, MakerBreaker, MakerMaker, Switching}
+pub use Rattle.pg_base.specs.declared.kind.Kind.TheVariants.{AvoiderEnforcer, MakerBreaker}
+pub use Rattle.pg_base.specs.declared.kind.Kind.TheVariants.{MakerMaker, Switching}
 pub use Rattle.pg_base.specs.declared.side.Side.{Side}
 pub use Rattle.pg_base.specs.declared.side.Side.TheVariants.{X, Y}
 pub use Rattle.pg_cert.specs.Limits.{IsClaim, IsNode, IsTurn, IsWithinLimits}
 pub use Rattle.pg_cert.specs.Node.{position_of}
 pub use Rattle.pg_cert.specs.NodeFault.{fault_number}
 pub use Rattle.pg_cert.specs.Parts.{BeginCert, all_parts, claim_parts, parts_of}
-pub use Rattle.pg_cert.specs.Valid.{AreEdgeSets, AreSoundBefore, EndsRight, FollowMoves, FollowsMove, HasCuts, HasPairs, HasPotential, HasThreat, HasTrees, HasTurn, HasWeaker, IsFirstFault, IsInGame, IsLeastFault, IsNodeOf, IsOwed, IsSound, IsValid, IsValidClaim, NamesEarlier, Owes, Passes, PotentialFits, TakesFree, allows_weaker, is_allowed, pairs_fit, shows_cuts, shows_defence, shows_trees, with_e_named}
+pub use Rattle.pg_cert.specs.Valid.{AreEdgeSets, AreSoundBefore, EndsRight, FollowMoves}
+pub use Rattle.pg_cert.specs.Valid.{FollowsMove, HasCuts, HasPairs, HasPotential, HasThreat}
+pub use Rattle.pg_cert.specs.Valid.{HasTrees, HasTurn, HasWeaker, IsFirstFault, IsInGame}
+pub use Rattle.pg_cert.specs.Valid.{IsLeastFault, IsNodeOf, IsOwed, IsSound, IsValid, IsValidClaim}
+pub use Rattle.pg_cert.specs.Valid.{NamesEarlier, Owes, Passes, PotentialFits, TakesFree}
+pub use Rattle.pg_cert.specs.Valid.{allows_weaker, is_allowed, pairs_fit, shows_cuts, shows_defence}
+pub use Rattle.pg_cert.specs.Valid.{shows_trees, with_e_named}
 pub use Rattle.pg_cert.specs.declared.cert.Cert.{Cert}
 pub use Rattle.pg_cert.specs.declared.cert.Claim.{Claim}
 pub use Rattle.pg_cert.specs.declared.node.Body.{Body}
-pub use Rattle.pg_cert.specs.declared.node.Body.TheVariants.{Cuts, Move, Over, Pairs, Potential, Threat, Trees, Weaker}
+pub use Rattle.pg_cert.specs.declared.node.Body.TheVariants.{Cuts, Move, Over, Pairs, Potential}
+pub use Rattle.pg_cert.specs.declared.node.Body.TheVariants.{Threat, Trees, Weaker}
 pub use Rattle.pg_cert.specs.declared.node.Node.{Node}
 pub use Rattle.pg_cert.specs.declared.node_fault.NodeFault.{NodeFault}
 pub use Rattle.pg_cert.specs.declared.part.Part.{Part}
 pub use Rattle.pg_cert.specs.declared.reply.Reply.{Reply}
-pub use Rattle.pg_game.specs.Game.{IsPosition, after, has_filled, is_filled, is_over, lines_of, outcome, point_count, with_turn}
+pub use Rattle.pg_game.specs.Game.{IsPosition, after, has_filled, is_filled, is_over, lines_of}
+pub use Rattle.pg_game.specs.Game.{outcome, point_count, with_turn}
 unfoldable pub use Rattle.pg_game.specs.Game.{free_points}
 pub use Rattle.pg_game.specs.Judge.{IsMadeForGame, room_of}
 pub use Rattle.pg_game.specs.Position.{is_free, points_of}
 pub use Rattle.pg_game.specs.Potential.{is_on}
-pub use Rattle.pg_game.specs.Threat.{Filling, Forcing, IsAttack, IsThreatLine, LeadsToLine, has_threat, is_near, may_attack, threatens}
+pub use Rattle.pg_game.specs.Threat.{Filling, Forcing, IsAttack, IsThreatLine, LeadsToLine}
+pub use Rattle.pg_game.specs.Threat.{has_threat, is_near, may_attack, threatens}
 pub use Rattle.pg_game.specs.Trees.{CutsHold, TreesHold}
 pub use Rattle.pg_game.specs.Value.{Forces, reaches}
 pub use Rattle.pg_game.specs.Weaker.{IsNoWorse}

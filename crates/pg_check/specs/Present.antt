@@ -1,7 +1,8 @@
 -- The claim that is being checked: what it says, how many nodes it has, and the positions of those
 -- that were checked.
 use Rattle.std.specs.Prelude.{◌≡◌, ℕ, ◌+◌, ◌<◌, ◌≤◌, length, map, take}
-use Rattle.pg_check.specs.Prelude.{ShareNone, Game, Position, with_turn, Claim, Node, Over, NodeFault, position_of, fault_number, Passes}
+use Rattle.pg_check.specs.Prelude.{ShareNone, Game, Position, with_turn, Claim, Node, Over}
+use Rattle.pg_check.specs.Prelude.{NodeFault, position_of, fault_number, Passes}
 use Rattle.pg_cert.specs.declared.node_fault.NodeFault.TheVariants as faults
 use Rattle.pg_check.specs.Marks.{kept}
 use Rattle.pg_check.specs.declared.present.Present.{Present}

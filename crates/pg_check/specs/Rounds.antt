@@ -1,6 +1,10 @@
 -- A list of attacks and replies round by round: an attack and the reply to it are a round.
-use Rattle.std.specs.Prelude.{◌≡◌, ℕ, zero, suc, ◌+◌, ◌*◌, ◌<◌, ◌≤◌, ◌-◌, ◌||◌, ◌==◌, nat_le, if◌then◌else◌, true, false, List, get_or}
-use Rattle.pg_check.specs.Prelude.{Contains, list_any, list_all, FinSet, contains, nat_cmp, other, MakerMaker, Side, Game, Position, points_of, lines_of, has_filled, after, IsPosition, is_on, has_threat, threatens, is_near, IsAttack}
+use Rattle.std.specs.Prelude.{◌≡◌, ℕ, zero, suc, ◌+◌, ◌*◌, ◌<◌, ◌≤◌, ◌-◌, ◌||◌, ◌==◌, nat_le}
+use Rattle.std.specs.Prelude.{if◌then◌else◌, true, false, List, get_or}
+use Rattle.pg_check.specs.Prelude.{Contains, list_any, list_all, FinSet, contains, nat_cmp, other}
+use Rattle.pg_check.specs.Prelude.{MakerMaker, Side, Game, Position, points_of, lines_of}
+use Rattle.pg_check.specs.Prelude.{has_filled, after, IsPosition, is_on, has_threat, threatens}
+use Rattle.pg_check.specs.Prelude.{is_near, IsAttack}
 use Rattle.pg_check.specs.Lacked.{filled_but}
 
 -- the attack of a round, and the reply to it

@@ -1,6 +1,7 @@
 -- What a tester is made for.
 use Rattle.std.specs.Prelude.{◌≡◌, ℕ, nat_lt}
-use Rattle.pg_check.specs.Prelude.{FinSet, contains, nat_cmp, point_count, Game, IsMadeForGame, room_of}
+use Rattle.pg_check.specs.Prelude.{FinSet, contains, nat_cmp, point_count, Game, IsMadeForGame}
+use Rattle.pg_check.specs.Prelude.{room_of}
 use Rattle.pg_check.specs.declared.tester.Tester.{Tester}
 
 -- the set holds just the points of the game

@@ -1,6 +1,9 @@
 -- A check on a console.
 use Rattle.std.proofs.Common.{◌≡◌, ℕ, List, map, Ok, Err, refl, sym, ◌∙◌, ap, subst, inl, inr}
-use Rattle.pg_cli.proofs.Common.{ConsoleTold, Grows, Bytes, Said, Stop, Write, Game, ClaimHead, HasFault, HasImageFault, ShowsValid, heads_of_evidence, Evidence, Rejected, RejectedImage, DONE, IsCut, Finished, Failed, Starved, Performs, Refused, Stopped, silent, talked_texts}
+use Rattle.pg_cli.proofs.Common.{ConsoleTold, Grows, Bytes, Said, Stop, Write, Game, ClaimHead}
+use Rattle.pg_cli.proofs.Common.{HasFault, HasImageFault, ShowsValid, heads_of_evidence, Evidence}
+use Rattle.pg_cli.proofs.Common.{Rejected, RejectedImage, DONE, IsCut, Finished, Failed, Starved}
+use Rattle.pg_cli.proofs.Common.{Performs, Refused, Stopped, silent, talked_texts}
 use Rattle.pg_cli.specs.Checking.{acceptance, head_acceptance, RefusesCheck, AcceptsAll}
 use Rattle.pg_cli.specs.Reading.{read_of}
 use Rattle.pg_cli.proofs.Verdicts.{same_acceptances}

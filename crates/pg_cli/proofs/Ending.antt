@@ -1,7 +1,17 @@
 -- How a run ends.
-use Rattle.std.proofs.Common.{◌≡◌, ◌≢◌, ℕ, Bool, true, false, if◌then◌else◌, List, [], ◌∷◌, Option, Some, None, Ok, Err, refl, sym, ◌∙◌, ap, subst, inl, inr, arith}
+use Rattle.std.proofs.Common.{◌≡◌, ◌≢◌, ℕ, Bool, true, false, if◌then◌else◌, List, [], ◌∷◌, Option}
+use Rattle.std.proofs.Common.{Some, None, Ok, Err, refl, sym, ◌∙◌, ap, subst, inl, inr, arith}
 use Rattle.std.specs.Prelude.{IfSome}
-use Rattle.pg_cli.proofs.Common.{Contains, Faults, Rose, ConsoleTold, Grows, Bytes, Holding, FilesTold, Entry, Said, Stop, Read, Write, Memory, refusal_status, refusal_text, Refusal, NoMeaning, NoClaim, Certificate, Rejected, RejectedSpan, RejectedVectors, RejectedImage, DONE, UNKNOWN, REFUSED, NO_MEANING, READ_FAILED, WRITE_FAILED, NO_MEMORY, OUT_OF_REPLIES, Command, Solve, Check, Play, Gen, Report, OfFamily, Record, Review, Source, Done, End, Finished, Failed, Starved, Changes, IsNothing, ending, nothing, talk, stop_end, BothCauses, Calm, HasCause, stop_status, Expanded, Halt, Refused, Stopped, Grows-then}
+use Rattle.pg_cli.proofs.Common.{Contains, Faults, Rose, ConsoleTold, Grows, Bytes, Holding}
+use Rattle.pg_cli.proofs.Common.{FilesTold, Entry, Said, Stop, Read, Write, Memory, refusal_status}
+use Rattle.pg_cli.proofs.Common.{refusal_text, Refusal, NoMeaning, NoClaim, Certificate, Rejected}
+use Rattle.pg_cli.proofs.Common.{RejectedSpan, RejectedVectors, RejectedImage, DONE, UNKNOWN}
+use Rattle.pg_cli.proofs.Common.{REFUSED, NO_MEANING, READ_FAILED, WRITE_FAILED, NO_MEMORY}
+use Rattle.pg_cli.proofs.Common.{OUT_OF_REPLIES, Command, Solve, Check, Play, Gen, Report, OfFamily}
+use Rattle.pg_cli.proofs.Common.{Record, Review, Source, Done, End, Finished, Failed, Starved}
+use Rattle.pg_cli.proofs.Common.{Changes, IsNothing, ending, nothing, talk, stop_end, BothCauses}
+use Rattle.pg_cli.proofs.Common.{Calm, HasCause, stop_status, Expanded, Halt, Refused, Stopped}
+use Rattle.pg_cli.proofs.Common.{Grows-then}
 use Rattle.pg_messages.specs.declared.refusal.Refusal.TheVariants.{Game, Record as FaultyRecord}
 use Rattle.pg_words.specs.declared.family.FamilyTask.TheVariants as tasks
 use Rattle.pg_cli.specs.Generating.{searches}

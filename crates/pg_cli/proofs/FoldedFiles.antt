@@ -1,6 +1,8 @@
 -- The file of a folded certificate.
 use Rattle.std.proofs.Common.{◌≡◌, ◌∙◌, List, [], ◌∷◌, map, true, refl, ap, ap₂, inl}
-use Rattle.pg_cli.proofs.Common.{AllZip, Goal, Side, IsValid, Cert, Claim, IsSameClaim, FoldsWell, Game, IsImageWithinLimits, printed_image_certificate, ImageCert, Bytes, Heading, heading, AreSound, IsUnfoldedCert, Unfolded}
+use Rattle.pg_cli.proofs.Common.{AllZip, Goal, Side, IsValid, Cert, Claim, IsSameClaim, FoldsWell}
+use Rattle.pg_cli.proofs.Common.{Game, IsImageWithinLimits, printed_image_certificate, ImageCert}
+use Rattle.pg_cli.proofs.Common.{Bytes, Heading, heading, AreSound, IsUnfoldedCert, Unfolded}
 use Rattle.pg_cli.specs.Solving.{IsFileOf}
 
 abbrev headed : Side → Side → Goal → Heading

@@ -1,7 +1,23 @@
 -- Claims that are said are forced.
-use Rattle.std.proofs.Common.{◌≡◌, ℕ, suc, Bool, true, false, cond, List, [], ◌∷◌, ◌++◌, length, map, find, slice_get, Option, Some, None, Result, Ok, Err, refl, sym, ◌∙◌, ap, subst, inl, inr}
+use Rattle.std.proofs.Common.{◌≡◌, ℕ, suc, Bool, true, false, cond, List, [], ◌∷◌, ◌++◌, length}
+use Rattle.std.proofs.Common.{map, find, slice_get, Option, Some, None, Result, Ok, Err, refl, sym}
+use Rattle.std.proofs.Common.{◌∙◌, ap, subst, inl, inr}
 use Rattle.std.specs.Prelude.{◌==◌, if◌then◌else◌, codes, decimal, IfSome}
-use Rattle.pg_cli.proofs.Common.{Contains, append_cancel_left, Contains-append_cases, is_same_side, Side, X, Y, ConsoleTold, Grows, Bytes, Holding, Making, FilesTold, Entry, Said, Field, Graph, Lines, Game, game, evidence, evidence_held, StandsFor, Evidence, Plain, Folded, IsWithinLimits, node_count, IsValid, Cert, Claim, with_turn, Forces, is_win, is_claim_of, is_win_of, chosen_claim, refusal_text, unknown_text, expanded_text, Refusal, Command, Solve, Check, Play, Gen, Report, OfFamily, Record, Review, FamilyTask, Done, End, Finished, Failed, Starved, Stops, behind, ending, ActsInFamily, AreForcedInFamily, IsForcedInFamily, IsForcedInFamilyFrom, AllOther, AreOther, IsOther, accepted_forced, apart, delivers_other, first_or_later, held_there, none_of, one_of, one_other, others_forced, play_forced, said_is, stays_other, unsaid, game_held, IsSaidBy, both, delivered, budget, certificate_of, Short, Cut, First, Solution, Value, Unknown, Expanded, Halt}
+use Rattle.pg_cli.proofs.Common.{Contains, append_cancel_left, Contains-append_cases, is_same_side}
+use Rattle.pg_cli.proofs.Common.{Side, X, Y, ConsoleTold, Grows, Bytes, Holding, Making, FilesTold}
+use Rattle.pg_cli.proofs.Common.{Entry, Said, Field, Graph, Lines, Game, game, evidence}
+use Rattle.pg_cli.proofs.Common.{evidence_held, StandsFor, Evidence, Plain, Folded, IsWithinLimits}
+use Rattle.pg_cli.proofs.Common.{node_count, IsValid, Cert, Claim, with_turn, Forces, is_win}
+use Rattle.pg_cli.proofs.Common.{is_claim_of, is_win_of, chosen_claim, refusal_text, unknown_text}
+use Rattle.pg_cli.proofs.Common.{expanded_text, Refusal, Command, Solve, Check, Play, Gen, Report}
+use Rattle.pg_cli.proofs.Common.{OfFamily, Record, Review, FamilyTask, Done, End, Finished, Failed}
+use Rattle.pg_cli.proofs.Common.{Starved, Stops, behind, ending, ActsInFamily, AreForcedInFamily}
+use Rattle.pg_cli.proofs.Common.{IsForcedInFamily, IsForcedInFamilyFrom, AllOther, AreOther}
+use Rattle.pg_cli.proofs.Common.{IsOther, accepted_forced, apart, delivers_other, first_or_later}
+use Rattle.pg_cli.proofs.Common.{held_there, none_of, one_of, one_other, others_forced, play_forced}
+use Rattle.pg_cli.proofs.Common.{said_is, stays_other, unsaid, game_held, IsSaidBy, both, delivered}
+use Rattle.pg_cli.proofs.Common.{budget, certificate_of, Short, Cut, First, Solution, Value}
+use Rattle.pg_cli.proofs.Common.{Unknown, Expanded, Halt}
 use Rattle.std.specs.Option.{option_or}
 use Rattle.std.proofs.lemmas.Bool.{and_parts}
 use Rattle.pg_files.specs.GameFile.{Entry as GameEntry}
@@ -11,12 +27,14 @@ use Rattle.pg_messages.specs.declared.refusal.Refusal.TheVariants as refusals
 use Rattle.pg_words.specs.declared.family.Family.{Family}
 use Rattle.pg_cli.specs.Checking.{AcceptsAll}
 use Rattle.pg_cli.specs.Commands.{game_read}
-use Rattle.pg_cli.specs.Forced.{SaysGame, IsForcedFrom, IsForced, AreForced, AreForcedInGame, AnnouncesForced}
+use Rattle.pg_cli.specs.Forced.{SaysGame, IsForcedFrom, IsForced, AreForced, AreForcedInGame}
+use Rattle.pg_cli.specs.Forced.{AnnouncesForced}
 use Rattle.pg_cli.specs.Playing.{IsPlayedBy, PlaysOn, claimer}
 use Rattle.pg_cli.specs.Reading.{both_held}
 use Rattle.pg_cli.specs.Reporting.{Accounts, Reports}
 use Rattle.pg_cli.specs.Generating.{StoresGame, game_file, size_text, size_texts}
-use Rattle.pg_cli.specs.Solving.{Solves, SolvesGame, Told, result_alone, result_and_counts, solution_text}
+use Rattle.pg_cli.specs.Solving.{Solves, SolvesGame, Told, result_alone, result_and_counts}
+use Rattle.pg_cli.specs.Solving.{solution_text}
 use Rattle.pg_cli.specs.declared.solving.TheConstants.{DEFAULT_POSITIONS}
 use Rattle.pg_solve.specs.declared.solution.Solution.TheVariants.{Class as ForClass}
 use Rattle.pg_cli.proofs.Recorded.{records_other, reviews_other}

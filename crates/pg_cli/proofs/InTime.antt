@@ -1,6 +1,10 @@
 -- What a review said in time stays said where more is said.
-use Rattle.std.proofs.Common.{ℕ, ◌-◌, List, [], ◌∷◌, ◌++◌, map, take, Option, Some, None, sym, subst, append_assoc, inl, inr}
-use Rattle.pg_cli.proofs.Common.{Game, ConsoleTold, Grows, Bytes, Holding, Entry, Said, Expanded, IsOfNames, IsReached, SaysAtLeast, loss_texts, LeavesSearch, Grows-then, Halt, Refused, Stopped, refusal_text, Command, Solve, Check, Play, Gen, Report, OfFamily, Record, Review}
+use Rattle.std.proofs.Common.{ℕ, ◌-◌, List, [], ◌∷◌, ◌++◌, map, take, Option, Some, None, sym}
+use Rattle.std.proofs.Common.{subst, append_assoc, inl, inr}
+use Rattle.pg_cli.proofs.Common.{Game, ConsoleTold, Grows, Bytes, Holding, Entry, Said, Expanded}
+use Rattle.pg_cli.proofs.Common.{IsOfNames, IsReached, SaysAtLeast, loss_texts, LeavesSearch}
+use Rattle.pg_cli.proofs.Common.{Grows-then, Halt, Refused, Stopped, refusal_text, Command, Solve}
+use Rattle.pg_cli.proofs.Common.{Check, Play, Gen, Report, OfFamily, Record, Review}
 use Rattle.pg_sessions.proofs.Standing.{leaves-more}
 use Rattle.pg_cli.specs.Commands.{SpeaksInTime}
 use Rattle.pg_cli.specs.Run.{Ends}

@@ -1,9 +1,16 @@
 -- Making a game, put together.
-use Rattle.std.proofs.Common.{◌≡◌, ◌≢◌, ℕ, Bool, true, false, List, [], ◌∷◌, ◌+◌, ◌<◌, length, get_or, take, Option, Some, None, Result, Ok, Err, refl, sym, ◌∙◌, ap, subst, inl, inr, if◌then◌else◌}
+use Rattle.std.proofs.Common.{◌≡◌, ◌≢◌, ℕ, Bool, true, false, List, [], ◌∷◌, ◌+◌, ◌<◌, length}
+use Rattle.std.proofs.Common.{get_or, take, Option, Some, None, Result, Ok, Err, refl, sym, ◌∙◌, ap}
+use Rattle.std.proofs.Common.{subst, inl, inr, if◌then◌else◌}
 use Rattle.std.specs.Prelude.{IfErr, IfSome}
-use Rattle.pg_cli.proofs.Common.{take_more, sum_by_push, Switching, node_count, Claim, ConsoleTold, Grows, Bytes, Holding, FilesTold, Said, Read, Write, Memory, is_switching, Game, Expanded, budget, IsLeft, Command, Gen, Source, Rows, Bridge, Scatter, Does, Follows, IsWriteHalt, MuteAtMemory, Delivers, Halt, Refused, Stopped, delivers_first, Grows-then}
+use Rattle.pg_cli.proofs.Common.{take_more, sum_by_push, Switching, node_count, Claim, ConsoleTold}
+use Rattle.pg_cli.proofs.Common.{Grows, Bytes, Holding, FilesTold, Said, Read, Write, Memory}
+use Rattle.pg_cli.proofs.Common.{is_switching, Game, Expanded, budget, IsLeft, Command, Gen, Source}
+use Rattle.pg_cli.proofs.Common.{Rows, Bridge, Scatter, Does, Follows, IsWriteHalt, MuteAtMemory}
+use Rattle.pg_cli.proofs.Common.{Delivers, Halt, Refused, Stopped, delivers_first, Grows-then}
 use Rattle.pg_cli.specs.Commands.{LeavesWork, Quiets, built}
-use Rattle.pg_cli.specs.Generating.{IsMade, IsMadeOf, StoresGame, game_file, has_source, searches, size_text, size_texts}
+use Rattle.pg_cli.specs.Generating.{IsMade, IsMadeOf, StoresGame, game_file, has_source, searches}
+use Rattle.pg_cli.specs.Generating.{size_text, size_texts}
 use Rattle.pg_cli.specs.Run.{CarriesOn, Carries}
 use Rattle.pg_cli.specs.Solving.{SolvesGame, result_and_counts}
 use Rattle.pg_cli.specs.declared.solving.TheConstants.{DEFAULT_POSITIONS}

@@ -1,7 +1,12 @@
 -- A play, put together.
-use Rattle.std.proofs.Common.{◌≡◌, ◌∙◌, ℕ, List, [], None, Some, Result, Ok, Err, refl, ap, subst, inl, inr}
+use Rattle.std.proofs.Common.{◌≡◌, ◌∙◌, ℕ, List, [], None, Some, Result, Ok, Err, refl, ap, subst}
+use Rattle.std.proofs.Common.{inl, inr}
 use Rattle.std.specs.Prelude.{IfErr}
-use Rattle.pg_cli.proofs.Common.{Side, ConsoleTold, Entry, Game, Position, start, Cert, IsValid, IsInnerHalt, HasFault, MakesStanding, StandsFor, Evidence, chosen_claim, Contender, contender_of, player_of, End, Starved, Performs, stop_end, IsPlayHalt, IsTalkHalt, IsPlay, Halt, Refused, Stopped, performs_more, silent}
+use Rattle.pg_cli.proofs.Common.{Side, ConsoleTold, Entry, Game, Position, start, Cert, IsValid}
+use Rattle.pg_cli.proofs.Common.{IsInnerHalt, HasFault, MakesStanding, StandsFor, Evidence}
+use Rattle.pg_cli.proofs.Common.{chosen_claim, Contender, contender_of, player_of, End, Starved}
+use Rattle.pg_cli.proofs.Common.{Performs, stop_end, IsPlayHalt, IsTalkHalt, IsPlay, Halt, Refused}
+use Rattle.pg_cli.proofs.Common.{Stopped, performs_more, silent}
 use Rattle.pg_player.specs.Player.{Play}
 use Rattle.pg_messages.specs.declared.refusal.Refusal.TheVariants as refusals
 use Rattle.pg_cli.specs.Playing.{PlaysOn, RefusesPlay, claimer}

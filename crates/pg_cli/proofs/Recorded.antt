@@ -1,6 +1,12 @@
 -- What is said of recorded games: no claim is accepted, and none is said.
-use Rattle.std.proofs.Common.{ℕ, ◌-◌, List, [], ◌∷◌, ◌++◌, length, take, Option, Result, Ok, Err, refl, sym, subst, inl, inr}
-use Rattle.pg_cli.proofs.Common.{Contains, Contains-append_cases, Contains-append_left, Bytes, Entry, Said, start, Game, lost_text, reply_text, reviewed_text, unknown_at_text, Done, End, Finished, Failed, Starved, SaysFirst, Halt, Expanded, budget, Records, RecordsGame, ReviewsMoves, ReviewsRead, loss_texts, AllOther, AreOther, IsOther, apart, first_or_later, image_of, none_of, one_other, stays_other}
+use Rattle.std.proofs.Common.{ℕ, ◌-◌, List, [], ◌∷◌, ◌++◌, length, take, Option, Result, Ok, Err}
+use Rattle.std.proofs.Common.{refl, sym, subst, inl, inr}
+use Rattle.pg_cli.proofs.Common.{Contains, Contains-append_cases, Contains-append_left, Bytes}
+use Rattle.pg_cli.proofs.Common.{Entry, Said, start, Game, lost_text, reply_text, reviewed_text}
+use Rattle.pg_cli.proofs.Common.{unknown_at_text, Done, End, Finished, Failed, Starved, SaysFirst}
+use Rattle.pg_cli.proofs.Common.{Halt, Expanded, budget, Records, RecordsGame, ReviewsMoves}
+use Rattle.pg_cli.proofs.Common.{ReviewsRead, loss_texts, AllOther, AreOther, IsOther, apart}
+use Rattle.pg_cli.proofs.Common.{first_or_later, image_of, none_of, one_other, stays_other}
 use Rattle.pg_files.specs.GameFile.{Entry as GameEntry}
 use Rattle.pg_messages.specs.declared.message.ReplyFault.{ReplyFault}
 use Rattle.pg_messages.specs.declared.message.ReplyFault.TheVariants as fault

@@ -1,6 +1,7 @@
 -- Reports, put together.
 use Rattle.std.proofs.Common.{◌≡◌, ℕ, [], ◌∷◌, Ok, Err, refl, inl, inr}
-use Rattle.pg_cli.proofs.Common.{ConsoleTold, Grows, Bytes, Said, Stop, Game, Evidence, Finished, Performs, stop_end, REFUSED, Stopped, silent, talked_texts}
+use Rattle.pg_cli.proofs.Common.{ConsoleTold, Grows, Bytes, Said, Stop, Game, Evidence, Finished}
+use Rattle.pg_cli.proofs.Common.{Performs, stop_end, REFUSED, Stopped, silent, talked_texts}
 use Rattle.pg_cli.specs.Reading.{read_of}
 use Rattle.pg_cli.specs.Report.{rejection_text}
 use Rattle.pg_cli.specs.declared.code.Code.{Code}

@@ -1,6 +1,10 @@
 -- Runs that only read files and talk.
-use Rattle.std.proofs.Common.{◌≡◌, ℕ, Option, Some, None, Result, Ok, Err, refl, sym, subst, inl, inr}
-use Rattle.pg_cli.proofs.Common.{ConsoleTold, Bytes, Holding, FilesTold, ReadsOnly, Read, Write, Memory, Side, Game, Evidence, Refusal, Command, Solve, Check, Play, Gen, Report, OfFamily, Record, Review, Expanded, Performs, Halt, Refused, Stopped, runs_halt, runs_read, Grows-nothing}
+use Rattle.std.proofs.Common.{◌≡◌, ℕ, Option, Some, None, Result, Ok, Err, refl, sym, subst, inl}
+use Rattle.std.proofs.Common.{inr}
+use Rattle.pg_cli.proofs.Common.{ConsoleTold, Bytes, Holding, FilesTold, ReadsOnly, Read, Write}
+use Rattle.pg_cli.proofs.Common.{Memory, Side, Game, Evidence, Refusal, Command, Solve, Check, Play}
+use Rattle.pg_cli.proofs.Common.{Gen, Report, OfFamily, Record, Review, Expanded, Performs, Halt}
+use Rattle.pg_cli.proofs.Common.{Refused, Stopped, runs_halt, runs_read, Grows-nothing}
 use Rattle.pg_files.specs.GameFile.{Entry as GameEntry}
 use Rattle.pg_cli.specs.Checking.{RefusesCheck, AcceptsAll}
 use Rattle.pg_cli.specs.Commands.{Gives, LeavesFiles, LeavesWork, Quiets, SpeaksInTime}

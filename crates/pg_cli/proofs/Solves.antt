@@ -1,12 +1,21 @@
 -- Solving, put together.
-use Rattle.std.proofs.Common.{◌≡◌, ◌≢◌, ◌⊎◌, ◌≤◌, ℕ, nat_lt, Bool, true, false, arith, if◌then◌else◌, List, [], ◌∷◌, length, Option, Some, None, Result, Ok, Err, refl, sym, ◌∙◌, ap, subst, inl, inr}
+use Rattle.std.proofs.Common.{◌≡◌, ◌≢◌, ◌⊎◌, ◌≤◌, ℕ, nat_lt, Bool, true, false, arith}
+use Rattle.std.proofs.Common.{if◌then◌else◌, List, [], ◌∷◌, length, Option, Some, None, Result, Ok}
+use Rattle.std.proofs.Common.{Err, refl, sym, ◌∙◌, ap, subst, inl, inr}
 use Rattle.std.specs.Prelude.{IfSome}
-use Rattle.pg_cli.proofs.Common.{nat_tests, Kind, AvoiderEnforcer, MakerBreaker, MakerMaker, Switching, ConsoleTold, Grows, Bytes, Holding, FilesTold, Said, is_switching, Game, Cert, free_points, start, Expanded, budget, IsLeft, IsLeftOpen, LeavesSearch, Solution, unknown_text, Refusal, UNKNOWN, Solve, Done, End, Finished, Failed, Starved, Does, Follows, talk, stop_end, OpensGame, game_held, Delivers, Halt, Refused, Stopped, follows_more, kept, talked_texts}
+use Rattle.pg_cli.proofs.Common.{nat_tests, Kind, AvoiderEnforcer, MakerBreaker, MakerMaker}
+use Rattle.pg_cli.proofs.Common.{Switching, ConsoleTold, Grows, Bytes, Holding, FilesTold, Said}
+use Rattle.pg_cli.proofs.Common.{is_switching, Game, Cert, free_points, start, Expanded, budget}
+use Rattle.pg_cli.proofs.Common.{IsLeft, IsLeftOpen, LeavesSearch, Solution, unknown_text, Refusal}
+use Rattle.pg_cli.proofs.Common.{UNKNOWN, Solve, Done, End, Finished, Failed, Starved, Does}
+use Rattle.pg_cli.proofs.Common.{Follows, talk, stop_end, OpensGame, game_held, Delivers, Halt}
+use Rattle.pg_cli.proofs.Common.{Refused, Stopped, follows_more, kept, talked_texts}
 use Rattle.pg_files.specs.GameFile.{Entry as GameEntry}
 use Rattle.pg_pns.specs.Budget.{budget_for, most_for}
 use Rattle.pg_cli.specs.Commands.{IsGameHeld}
 use Rattle.pg_cli.specs.Run.{Refuses, CarriesOn, Carries}
-use Rattle.pg_cli.specs.Solving.{IsFileOf, IsLeftBehind, Shows, SolvesGame, Solves, Told, result_alone}
+use Rattle.pg_cli.specs.Solving.{IsFileOf, IsLeftBehind, Shows, SolvesGame, Solves, Told}
+use Rattle.pg_cli.specs.Solving.{result_alone}
 use Rattle.pg_cli.proofs.Runs.{carries_halt}
 
 -- what delivers the certificate of what was found solves the game

@@ -1,7 +1,13 @@
 -- What a task done with a game of a family gives, says and leaves; a check and a play of any other
 -- game have the same statuses.
 use Rattle.std.proofs.Common.{◌≡◌, ℕ, List, Ok, Err, refl, sym, subst, inl, inr, arith}
-use Rattle.pg_cli.proofs.Common.{Contains, ConsoleTold, Bytes, FilesTold, ReadsOnly, Stop, Read, Write, Memory, refusal_status, Refusal, NoMeaning, NoClaim, Certificate, Rejected, RejectedSpan, RejectedVectors, RejectedImage, DONE, INPUT_ENDED, OUT_OF_REPLIES, FamilyTask, GivesInFamily, LeavesFamilyFiles, QuietAtReadInFamily, statuses_in_family, Finished, ending, stop_status, Refused, Stopped, Grows-nothing}
+use Rattle.pg_cli.proofs.Common.{Contains, ConsoleTold, Bytes, FilesTold, ReadsOnly, Stop, Read}
+use Rattle.pg_cli.proofs.Common.{Write, Memory, refusal_status, Refusal, NoMeaning, NoClaim}
+use Rattle.pg_cli.proofs.Common.{Certificate, Rejected, RejectedSpan, RejectedVectors}
+use Rattle.pg_cli.proofs.Common.{RejectedImage, DONE, INPUT_ENDED, OUT_OF_REPLIES, FamilyTask}
+use Rattle.pg_cli.proofs.Common.{GivesInFamily, LeavesFamilyFiles, QuietAtReadInFamily}
+use Rattle.pg_cli.proofs.Common.{statuses_in_family, Finished, ending, stop_status, Refused}
+use Rattle.pg_cli.proofs.Common.{Stopped, Grows-nothing}
 use Rattle.pg_messages.specs.declared.refusal.Refusal.TheVariants.{Game, Record}
 use Rattle.pg_words.specs.declared.family.FamilyTask.TheVariants.{Solve, Check, Play}
 

@@ -1,7 +1,12 @@
 -- Judging, put together.
-use Rattle.std.proofs.Common.{◌≡◌, ℕ, List, [], ◌∷◌, map, Option, Some, None, Result, Ok, Err, refl, sym, ◌∙◌, ap, ap₂, subst}
+use Rattle.std.proofs.Common.{◌≡◌, ℕ, List, [], ◌∷◌, map, Option, Some, None, Result, Ok, Err, refl}
+use Rattle.std.proofs.Common.{sym, ◌∙◌, ap, ap₂, subst}
 use Rattle.std.specs.Prelude.{IfSome}
-use Rattle.pg_cli.proofs.Common.{Goal, Side, ConsoleTold, Bytes, Holding, FilesTold, Game, Cert, Claim, AreUnfolded, IsUnfolded, StandsFor, IsFound, heads_of_evidence, image_head, Evidence, Plain, Folded, Verdict, accepted_text, Check, Report, Expanded, Performs, Halt, Refused, Stopped}
+use Rattle.pg_cli.proofs.Common.{Goal, Side, ConsoleTold, Bytes, Holding, FilesTold, Game, Cert}
+use Rattle.pg_cli.proofs.Common.{Claim, AreUnfolded, IsUnfolded, StandsFor, IsFound}
+use Rattle.pg_cli.proofs.Common.{heads_of_evidence, image_head, Evidence, Plain, Folded, Verdict}
+use Rattle.pg_cli.proofs.Common.{accepted_text, Check, Report, Expanded, Performs, Halt, Refused}
+use Rattle.pg_cli.proofs.Common.{Stopped}
 use Rattle.pg_image.specs.declared.cert.ImageClaim.{ImageClaim}
 use Rattle.pg_judge.specs.Heads.{head_of}
 use Rattle.pg_cli.specs.Checking.{AcceptsAll, RefusesCheck, acceptance, head_acceptance}

@@ -1,6 +1,8 @@
 -- What a check says.
 use Rattle.std.specs.Prelude.{◌≡◌, List, map, Result, Ok, Err}
-use Rattle.pg_cli.specs.Prelude.{Bytes, Entry, Game, IsValid, Cert, Claim, ClaimHead, accepted_text, Refusal, RejectsEvidence, StandsFor, Evidence, End, SaysAll, IsSaidBy, Halt, Refused}
+use Rattle.pg_cli.specs.Prelude.{Bytes, Entry, Game, IsValid, Cert, Claim, ClaimHead, accepted_text}
+use Rattle.pg_cli.specs.Prelude.{Refusal, RejectsEvidence, StandsFor, Evidence, End, SaysAll}
+use Rattle.pg_cli.specs.Prelude.{IsSaidBy, Halt, Refused}
 use Rattle.pg_files.specs.GameFile.{Entry as GameEntry}
 
 -- the text that accepts a claim

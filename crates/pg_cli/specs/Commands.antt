@@ -1,6 +1,17 @@
 -- What each command reads, and what it leaves.
-use Rattle.std.specs.Prelude.{◌≡◌, ◌≢◌, ◌⊎◌, ℕ, true, false, if◌then◌else◌, List, [], ◌∷◌, Option, Some, None, option_and_then, option_map, Result, Ok, Err, ⊤}
-use Rattle.pg_cli.specs.Prelude.{ConsoleTold, Grows, Bytes, Holding, FilesTold, ReadsOnly, entry, Game, Said, no_meaning_text, NoMeaning, DONE, UNKNOWN, NO_MEANING, FAULTY_GAME, REFUSED, READ_FAILED, WRITE_FAILED, NO_MEMORY, INPUT_ENDED, OUT_OF_REPLIES, FAULTY_RECORD, Command, Solve, Check, Play, Gen, Report, OfFamily, Record, Review, meaning_of, IsGameHalt, IsReadHalt, IsPlayHalt, IsPlayEnd, IsWriteHalt, game_held, lacking, QuietsBy, StoresAt, GivesInFamily, LacksInFamily, LeavesFamilyFiles, QuietAtReadInFamily, statuses_in_family, GivesRecord, IsAlong, IsOfNames, IsReached, GivesReview, StandsAgainst, Expanded, Memory, Halt, Refused, Stopped, LeavesSearch}
+use Rattle.std.specs.Prelude.{◌≡◌, ◌≢◌, ◌⊎◌, ℕ, true, false, if◌then◌else◌, List, [], ◌∷◌, Option}
+use Rattle.std.specs.Prelude.{Some, None, option_and_then, option_map, Result, Ok, Err, ⊤}
+use Rattle.pg_cli.specs.Prelude.{ConsoleTold, Grows, Bytes, Holding, FilesTold, ReadsOnly, entry}
+use Rattle.pg_cli.specs.Prelude.{Game, Said, no_meaning_text, NoMeaning, DONE, UNKNOWN, NO_MEANING}
+use Rattle.pg_cli.specs.Prelude.{FAULTY_GAME, REFUSED, READ_FAILED, WRITE_FAILED, NO_MEMORY}
+use Rattle.pg_cli.specs.Prelude.{INPUT_ENDED, OUT_OF_REPLIES, FAULTY_RECORD, Command, Solve, Check}
+use Rattle.pg_cli.specs.Prelude.{Play, Gen, Report, OfFamily, Record, Review, meaning_of}
+use Rattle.pg_cli.specs.Prelude.{IsGameHalt, IsReadHalt, IsPlayHalt, IsPlayEnd, IsWriteHalt}
+use Rattle.pg_cli.specs.Prelude.{game_held, lacking, QuietsBy, StoresAt, GivesInFamily}
+use Rattle.pg_cli.specs.Prelude.{LacksInFamily, LeavesFamilyFiles, QuietAtReadInFamily}
+use Rattle.pg_cli.specs.Prelude.{statuses_in_family, GivesRecord, IsAlong, IsOfNames, IsReached}
+use Rattle.pg_cli.specs.Prelude.{GivesReview, StandsAgainst, Expanded, Memory, Halt, Refused}
+use Rattle.pg_cli.specs.Prelude.{Stopped, LeavesSearch}
 use Rattle.pg_cli.specs.Generating.{IsMade, TellsSize, has_source, names_of, searches}
 use Rattle.pg_cli.specs.Reading.{both_held}
 use Rattle.pg_cli.specs.Reporting.{IsReportEnd}

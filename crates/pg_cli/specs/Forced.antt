@@ -1,6 +1,7 @@
 -- What it means that a claim is accepted, or played.
 use Rattle.std.specs.Prelude.{◌≡◌, List, ◌++◌, Option, Some, Ok}
-use Rattle.pg_cli.specs.Prelude.{Goal, Side, Bytes, Holding, Entry, with_turn, start, Forces, Game, game, entry, Command, OfFamily, AreForcedBy, AreForcedInFamily}
+use Rattle.pg_cli.specs.Prelude.{Goal, Side, Bytes, Holding, Entry, with_turn, start, Forces, Game}
+use Rattle.pg_cli.specs.Prelude.{game, entry, Command, OfFamily, AreForcedBy, AreForcedInFamily}
 use Rattle.pg_cli.specs.Commands.{game_read}
 
 -- these bytes say this game

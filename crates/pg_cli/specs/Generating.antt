@@ -1,6 +1,9 @@
 -- What making a game stores and says.
-use Rattle.std.specs.Prelude.{◌≡◌, ◌⊎◌, Bool, true, false, List, [], ◌∷◌, length, Option, Some, None}
-use Rattle.pg_cli.specs.Prelude.{ConsoleTold, Grows, Bytes, Making, Said, entry, Field, Lines, Graph, Game, Expanded, line_game_text, switching_game_text, Source, Rows, Bridge, Scatter, Done, End, Delivers, DeliversThen}
+use Rattle.std.specs.Prelude.{◌≡◌, ◌⊎◌, Bool, true, false, List, [], ◌∷◌, length, Option, Some}
+use Rattle.std.specs.Prelude.{None}
+use Rattle.pg_cli.specs.Prelude.{ConsoleTold, Grows, Bytes, Making, Said, entry, Field, Lines}
+use Rattle.pg_cli.specs.Prelude.{Graph, Game, Expanded, line_game_text, switching_game_text, Source}
+use Rattle.pg_cli.specs.Prelude.{Rows, Bridge, Scatter, Done, End, Delivers, DeliversThen}
 use Rattle.pg_files.specs.Print.{printed}
 use Rattle.pg_gen.specs.Bridge.{IsBridgeGame, has_bridge}
 use Rattle.pg_gen.specs.Rows.{IsRowsGame, has_rows}

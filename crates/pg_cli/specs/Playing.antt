@@ -1,6 +1,8 @@
 -- What a play says.
 use Rattle.std.specs.Prelude.{◌≡◌, ◌⊎◌, List, Some, None, Result, Ok, Err}
-use Rattle.pg_cli.specs.Prelude.{Side, Entry, start, Game, IsValid, Cert, Claim, chosen_claim, Refusal, NoClaim, RejectsEvidence, StandsFor, Evidence, Contender, contender_of, End, IsPlay, IsSaidBy, Halt, Refused}
+use Rattle.pg_cli.specs.Prelude.{Side, Entry, start, Game, IsValid, Cert, Claim, chosen_claim}
+use Rattle.pg_cli.specs.Prelude.{Refusal, NoClaim, RejectsEvidence, StandsFor, Evidence, Contender}
+use Rattle.pg_cli.specs.Prelude.{contender_of, End, IsPlay, IsSaidBy, Halt, Refused}
 use Rattle.pg_files.specs.GameFile.{Entry as GameEntry}
 
 -- the certificate for which it stands is valid and has no claim of the side with the game's turn

@@ -1,7 +1,8 @@
 -- What names hold: the game and the certificate that a command reads, in either form, or what
 -- stands against them.
 use Rattle.std.specs.Prelude.{Option, Result, Ok}
-use Rattle.pg_cli.specs.Prelude.{Bytes, Holding, Game, entry, evidence_held, Evidence, IsLackingTwo, OpensTwo, both, game_held, Halt}
+use Rattle.pg_cli.specs.Prelude.{Bytes, Holding, Game, entry, evidence_held, Evidence, IsLackingTwo}
+use Rattle.pg_cli.specs.Prelude.{OpensTwo, both, game_held, Halt}
 use Rattle.pg_files.specs.GameFile.{Entry as GameEntry}
 
 -- the game and the certificate that two names hold, or what stands against the first of them

@@ -1,6 +1,8 @@
 -- What a report says.
 use Rattle.std.specs.Prelude.{◌≡◌, ◌⊎◌, ℕ, List, [], ◌∷◌, Result, Ok, Err}
-use Rattle.pg_cli.specs.Prelude.{Bytes, Entry, Said, Game, HasFault, HasImageFault, ShowsValid, heads_of_evidence, Evidence, Refusal, DONE, REFUSED, End, Finished, Failed, Starved, IsSaidBy, Halt, Refused}
+use Rattle.pg_cli.specs.Prelude.{Bytes, Entry, Said, Game, HasFault, HasImageFault, ShowsValid}
+use Rattle.pg_cli.specs.Prelude.{heads_of_evidence, Evidence, Refusal, DONE, REFUSED, End, Finished}
+use Rattle.pg_cli.specs.Prelude.{Failed, Starved, IsSaidBy, Halt, Refused}
 use Rattle.pg_files.specs.GameFile.{Entry as GameEntry}
 use Rattle.pg_cli.specs.Report.{report_text, rejection_text}
 use Rattle.pg_cli.specs.declared.code.Code.{Code}

@@ -1,6 +1,11 @@
 -- WHAT EACH COMMAND MAY DO, and what a run is.
 use Rattle.std.specs.Prelude.{◌≡◌, ◌⊎◌, ℕ, [], ◌∷◌, Option, Some, None, Result, Err, IfSome}
-use Rattle.pg_cli.specs.Prelude.{Rose, ConsoleTold, Grows, Holding, FilesTold, Said, refusal_status, refusal_text, Refusal, NoMeaning, WRITE_FAILED, Command, Solve, Check, Play, Gen, Report, OfFamily, Record, Review, Done, End, Finished, Failed, Starved, Changes, Follows, IsNothing, ending, stop_status, game_held, Runs, ActsInFamily, RefusesFamily, Records, RefusesReview, Reviews, Expanded, Halt, Refused, Stopped}
+use Rattle.pg_cli.specs.Prelude.{Rose, ConsoleTold, Grows, Holding, FilesTold, Said, refusal_status}
+use Rattle.pg_cli.specs.Prelude.{refusal_text, Refusal, NoMeaning, WRITE_FAILED, Command, Solve}
+use Rattle.pg_cli.specs.Prelude.{Check, Play, Gen, Report, OfFamily, Record, Review, Done, End}
+use Rattle.pg_cli.specs.Prelude.{Finished, Failed, Starved, Changes, Follows, IsNothing, ending}
+use Rattle.pg_cli.specs.Prelude.{stop_status, game_held, Runs, ActsInFamily, RefusesFamily, Records}
+use Rattle.pg_cli.specs.Prelude.{RefusesReview, Reviews, Expanded, Halt, Refused, Stopped}
 use Rattle.pg_cli.specs.Checking.{RefusesCheck, AcceptsAll}
 use Rattle.pg_cli.specs.Generating.{Generates}
 use Rattle.pg_cli.specs.Playing.{RefusesPlay, PlaysOn}

@@ -1,6 +1,17 @@
 -- What solving stores and says.
-use Rattle.std.specs.Prelude.{◌≡◌, ◌≢◌, ◌⊎◌, ◌&&◌, ℕ, nat_le, Bool, true, false, if◌then◌else◌, List, [], ◌∷◌, length, map, Option, Some, None, Result, Ok, Err}
-use Rattle.pg_cli.specs.Prelude.{Kind, Switching, Bytes, Said, is_switching, MAX_POSITIONS, Game, IsWithinLimits, node_count, printed_certificate, IsValid, Cert, FoldsWell, IsFoldedWell, IsImageWithinLimits, printed_image_certificate, ImageCert, IsFaultless, IsUnfoldedCert, Unfolded, Expanded, heading, budget, IsAskedLast, IsLeft, IsLeftOpen, certificate_of, due, is_class, IsTrueOf, IsShown, Short, Cut, First, Solution, Value, Unknown, MIN_POSITIONS, class_short_text, class_cut_text, class_first_mover_text, expanded_text, message_text, result_text, unknown_text, Message, DONE, UNKNOWN, Done, End, Finished, Failed, Starved, IsSaidBy, Delivers, Halt}
+use Rattle.std.specs.Prelude.{◌≡◌, ◌≢◌, ◌⊎◌, ◌&&◌, ℕ, nat_le, Bool, true, false, if◌then◌else◌}
+use Rattle.std.specs.Prelude.{List, [], ◌∷◌, length, map, Option, Some, None, Result, Ok, Err}
+use Rattle.pg_cli.specs.Prelude.{Kind, Switching, Bytes, Said, is_switching, MAX_POSITIONS, Game}
+use Rattle.pg_cli.specs.Prelude.{IsWithinLimits, node_count, printed_certificate, IsValid, Cert}
+use Rattle.pg_cli.specs.Prelude.{FoldsWell, IsFoldedWell, IsImageWithinLimits}
+use Rattle.pg_cli.specs.Prelude.{printed_image_certificate, ImageCert, IsFaultless, IsUnfoldedCert}
+use Rattle.pg_cli.specs.Prelude.{Unfolded, Expanded, heading, budget, IsAskedLast, IsLeft}
+use Rattle.pg_cli.specs.Prelude.{IsLeftOpen, certificate_of, due, is_class, IsTrueOf, IsShown}
+use Rattle.pg_cli.specs.Prelude.{Short, Cut, First, Solution, Value, Unknown, MIN_POSITIONS}
+use Rattle.pg_cli.specs.Prelude.{class_short_text, class_cut_text, class_first_mover_text}
+use Rattle.pg_cli.specs.Prelude.{expanded_text, message_text, result_text, unknown_text, Message}
+use Rattle.pg_cli.specs.Prelude.{DONE, UNKNOWN, Done, End, Finished, Failed, Starved, IsSaidBy}
+use Rattle.pg_cli.specs.Prelude.{Delivers, Halt}
 use Rattle.pg_files.specs.GameFile.{Entry as GameEntry}
 use Rattle.pg_cert.specs.declared.cert.Version.TheVariants.{One}
 use Rattle.pg_solve.specs.declared.solution.Class.{Class}

@@ -1,6 +1,7 @@
 -- What judging a certificate for a game finds.
 use Rattle.std.specs.Prelude.{◌≡◌, Option, Some, None, Result, Ok, Err, ⊤}
-use Rattle.pg_cli.specs.Prelude.{Bytes, Holding, Game, IsFound, Evidence, Verdict, Halt, Refused, Stopped}
+use Rattle.pg_cli.specs.Prelude.{Bytes, Holding, Game, IsFound, Evidence, Verdict, Halt, Refused}
+use Rattle.pg_cli.specs.Prelude.{Stopped}
 use Rattle.pg_files.specs.GameFile.{Entry as GameEntry}
 use Rattle.pg_cli.specs.Reading.{both_held, read_of}
 

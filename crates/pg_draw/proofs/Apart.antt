@@ -1,5 +1,6 @@
 -- Different cells, and different vertices of a Bridg-It board, lie at different places.
-use Rattle.std.proofs.Common.{◌≡◌, ◌∙◌, ℕ, zero, suc, ◌+◌, ◌*◌, ◌-◌, ◌/◌, ◌%◌, ◌≤◌, ◌⊎◌, inl, inr, sym, ap, ap₂, arith, refl}
+use Rattle.std.proofs.Common.{◌≡◌, ◌∙◌, ℕ, zero, suc, ◌+◌, ◌*◌, ◌-◌, ◌/◌, ◌%◌, ◌≤◌, ◌⊎◌, inl, inr}
+use Rattle.std.proofs.Common.{sym, ap, ap₂, arith, refl}
 use Rattle.std.specs.Prelude.{max}
 use Rattle.pg_draw.proofs.Common.{div-add-mod', mod_below, nat_tests, Place}
 use Rattle.pg_draw.specs.Places.{column_of, columns_of, place_on_bridge, place_on_grid, row_of}

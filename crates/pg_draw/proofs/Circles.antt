@@ -1,8 +1,13 @@
 -- Different members of a circle lie at different places.
-use Rattle.std.proofs.Common.{◌≡◌, ◌∙◌, ℕ, zero, suc, ◌+◌, ◌*◌, ◌-◌, ◌/◌, ◌%◌, ◌<◌, ◌≤◌, Bool, true, inl, inr, sym, ap, arith, refl, subst}
+use Rattle.std.proofs.Common.{◌≡◌, ◌∙◌, ℕ, zero, suc, ◌+◌, ◌*◌, ◌-◌, ◌/◌, ◌%◌, ◌<◌, ◌≤◌, Bool, true}
+use Rattle.std.proofs.Common.{inl, inr, sym, ap, arith, refl, subst}
 use Rattle.std.specs.Prelude.{max, nat_le, ◌&&◌, ◌==◌, slice_index, if◌then◌else◌}
-use Rattle.pg_draw.proofs.Common.{add-mul-div_right, div-le_of_le-mul, div-lt_iff_lt-mul, div-mul-le_self, lt-div-mul-add, mul-add, mul-le-mul_left, and_parts, cases_Bool, cases_lt, nat_tests, div-add-mod', le-div, mod_below, mul-le, MAX_VERTICES, Place}
-use Rattle.pg_draw.specs.Places.{at, part_of, place_after, place_on_circle, place_on_ring, radius_of}
+use Rattle.pg_draw.proofs.Common.{add-mul-div_right, div-le_of_le-mul, div-lt_iff_lt-mul}
+use Rattle.pg_draw.proofs.Common.{div-mul-le_self, lt-div-mul-add, mul-add, mul-le-mul_left}
+use Rattle.pg_draw.proofs.Common.{and_parts, cases_Bool, cases_lt, nat_tests, div-add-mod', le-div}
+use Rattle.pg_draw.proofs.Common.{mod_below, mul-le, MAX_VERTICES, Place}
+use Rattle.pg_draw.specs.Places.{at, part_of, place_after, place_on_circle, place_on_ring}
+use Rattle.pg_draw.specs.Places.{radius_of}
 use Rattle.pg_draw.specs.declared.measures.TheConstants.{MAX_ON_RING, ROW}
 use Rattle.pg_draw.specs.declared.sines.TheConstants.{SINES}
 use Rattle.pg_draw.proofs.Apart.{cells_apart}

@@ -1,5 +1,6 @@
 -- How edges run.
-use Rattle.std.specs.Prelude.{ℕ, ◌+◌, ◌*◌, ◌/◌, ◌==◌, ◌&&◌, ◌||◌, max, nat_le, Bool, if◌then◌else◌, List, [], ◌∷◌, ◌++◌, Option, Some, None, slice_get, fold}
+use Rattle.std.specs.Prelude.{ℕ, ◌+◌, ◌*◌, ◌/◌, ◌==◌, ◌&&◌, ◌||◌, max, nat_le, Bool, if◌then◌else◌}
+use Rattle.std.specs.Prelude.{List, [], ◌∷◌, ◌++◌, Option, Some, None, slice_get, fold}
 use Rattle.pg_draw.specs.Prelude.{count_by, Place}
 use Rattle.std.specs.Int.{abs_diff}
 use Rattle.pg_draw.specs.declared.course.Course.{Course}

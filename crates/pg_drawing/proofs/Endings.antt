@@ -1,6 +1,11 @@
 -- With which statuses a run ends.
-use Rattle.std.proofs.Common.{◌≡◌, ℕ, List, Option, Some, None, Ok, Err, refl, sym, subst, inl, inr, arith}
-use Rattle.pg_drawing.proofs.Common.{Contains, ConsoleTold, Bytes, Read, Write, Memory, refusal_status, NoMeaning, NoClaim, Certificate, Rejected, RejectedSpan, RejectedVectors, RejectedImage, Record, DONE, NO_MEANING, REFUSED, WRITE_FAILED, stop_status, Refused, Stopped}
+use Rattle.std.proofs.Common.{◌≡◌, ℕ, List, Option, Some, None, Ok, Err, refl, sym, subst, inl, inr}
+use Rattle.std.proofs.Common.{arith}
+use Rattle.pg_drawing.proofs.Common.{Contains, ConsoleTold, Bytes, Read, Write, Memory}
+use Rattle.pg_drawing.proofs.Common.{refusal_status, NoMeaning, NoClaim, Certificate, Rejected}
+use Rattle.pg_drawing.proofs.Common.{RejectedSpan, RejectedVectors, RejectedImage, Record, DONE}
+use Rattle.pg_drawing.proofs.Common.{NO_MEANING, REFUSED, WRITE_FAILED, stop_status, Refused}
+use Rattle.pg_drawing.proofs.Common.{Stopped}
 use Rattle.pg_io.specs.declared.stop.Stop.{Stop}
 use Rattle.pg_messages.specs.declared.refusal.Refusal.{Refusal}
 use Rattle.pg_messages.specs.declared.refusal.Refusal.TheVariants.{Game}

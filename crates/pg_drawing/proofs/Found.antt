@@ -1,9 +1,12 @@
 -- What is due, from what was read.
 use Rattle.std.proofs.Common.{◌≡◌, Option, Some, None, Result, Ok, refl, sym, subst, string_bytes}
-use Rattle.pg_drawing.proofs.Common.{Bytes, Holding, Game, entry, Cert, SpanCert, SpanGame, span_entry, DONE, OpensCertificate, Halt, OpensSpanCert}
-use Rattle.pg_drawing.specs.Boards.{board_entry, connectivity_pair, positional_pair, with_certificate}
+use Rattle.pg_drawing.proofs.Common.{Bytes, Holding, Game, entry, Cert, SpanCert, SpanGame}
+use Rattle.pg_drawing.proofs.Common.{span_entry, DONE, OpensCertificate, Halt, OpensSpanCert}
+use Rattle.pg_drawing.specs.Boards.{board_entry, connectivity_pair, positional_pair}
+use Rattle.pg_drawing.specs.Boards.{with_certificate}
 use Rattle.pg_drawing.specs.Boards.BoardEntry.{Positional, Connectivity}
-use Rattle.pg_drawing.specs.Due.{DrawsGame, DrawsSpanGame, Finds, IsCertDue, IsDueOfBoth, IsDueOfGame, IsSpanCertDue}
+use Rattle.pg_drawing.specs.Due.{DrawsGame, DrawsSpanGame, Finds, IsCertDue, IsDueOfBoth}
+use Rattle.pg_drawing.specs.Due.{IsDueOfGame, IsSpanCertDue}
 use Rattle.pg_drawing.specs.Orders.{chosen, chosen_claim}
 use Rattle.pg_drawing.specs.declared.board.Board.{Board}
 use Rattle.pg_drawing.specs.declared.board.Board.TheVariants as boards

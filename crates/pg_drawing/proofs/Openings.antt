@@ -1,7 +1,9 @@
 -- What a name holds, from what was read of it: a game of either family.
-use Rattle.std.proofs.Common.{◌≡◌, ◌+◌, true, length, take, Option, Some, None, Result, Err, refl, subst}
+use Rattle.std.proofs.Common.{◌≡◌, ◌+◌, true, length, take, Option, Some, None, Result, Err, refl}
+use Rattle.std.proofs.Common.{subst}
 use Rattle.std.specs.Prelude.{nat_lt}
-use Rattle.pg_drawing.proofs.Common.{Bytes, Holding, Size, IsReadAs, Opens, game_fault, held_as, Halt}
+use Rattle.pg_drawing.proofs.Common.{Bytes, Holding, Size, IsReadAs, Opens, game_fault, held_as}
+use Rattle.pg_drawing.proofs.Common.{Halt}
 use Rattle.pg_io.specs.Reading.{IsFile}
 use Rattle.pg_files.specs.GameFile.{game}
 use Rattle.pg_files.specs.declared.limits.TheConstants.{MAX_GAME_BYTES}

@@ -2,7 +2,9 @@
 use Rattle.std.specs.Prelude.{◌≡◌, ℕ, Bool, ◌==◌, if◌then◌else◌, Option, Result, Ok, Err, ⊤}
 use Rattle.pg_drawing.specs.Prelude.{Bytes, FileError}
 use Rattle.pg_text.specs.declared.error.FileError.TheVariants as errors
-use Rattle.pg_drawing.specs.Prelude.{entry, number_of, Header, Cert, SpanCert, span_entry, certificate_held, game_fault, Halt, Refused, game_held, span_cert_held, span_held}
+use Rattle.pg_drawing.specs.Prelude.{entry, number_of, Header, Cert, SpanCert, span_entry}
+use Rattle.pg_drawing.specs.Prelude.{certificate_held, game_fault, Halt, Refused, game_held}
+use Rattle.pg_drawing.specs.Prelude.{span_cert_held, span_held}
 use Rattle.pg_files.specs.GameFile.{Entry as GameEntry}
 use Rattle.pg_family_files.specs.FamilyFile.{SpanEntry}
 use Rattle.pg_messages.specs.declared.refusal.Refusal.TheVariants.{Game as FaultyGame}

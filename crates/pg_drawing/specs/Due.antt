@@ -1,6 +1,10 @@
 -- WHAT IS TO BE SAID, with its status.
-use Rattle.std.specs.Prelude.{◌≡◌, ◌≢◌, ◌⊎◌, ℕ, Option, Some, None, Result, Ok, Err, ⊤, slice_get, string_bytes}
-use Rattle.pg_drawing.specs.Prelude.{Bytes, Holding, Game, IsFirstFault, IsValid, Cert, IsFirstFlaw, IsSpanValid, SpanCert, SpanGame, span_entry, refusal_status, NoMeaning, DONE, NO_MEANING, REFUSED, Halt, Refused, Stopped, IsSaidBy, IsSceneOfGame, IsSceneOfNode, LacksNode}
+use Rattle.std.specs.Prelude.{◌≡◌, ◌≢◌, ◌⊎◌, ℕ, Option, Some, None, Result, Ok, Err, ⊤, slice_get}
+use Rattle.std.specs.Prelude.{string_bytes}
+use Rattle.pg_drawing.specs.Prelude.{Bytes, Holding, Game, IsFirstFault, IsValid, Cert, IsFirstFlaw}
+use Rattle.pg_drawing.specs.Prelude.{IsSpanValid, SpanCert, SpanGame, span_entry, refusal_status}
+use Rattle.pg_drawing.specs.Prelude.{NoMeaning, DONE, NO_MEANING, REFUSED, Halt, Refused, Stopped}
+use Rattle.pg_drawing.specs.Prelude.{IsSaidBy, IsSceneOfGame, IsSceneOfNode, LacksNode}
 use Rattle.pg_span.specs.Flaw.{flaw_number}
 use Rattle.pg_span.specs.declared.flaw.SpanFlaw.{SpanFlaw}
 use Rattle.pg_messages.specs.Texts.{refusal_text}

@@ -1,5 +1,6 @@
 -- What the words of the command line ask for.
-use Rattle.std.specs.Prelude.{ℕ, ◌-◌, List, [], ◌∷◌, length, Option, Some, None, option_and_then, option_map}
+use Rattle.std.specs.Prelude.{ℕ, ◌-◌, List, [], ◌∷◌, length, Option, Some, None, option_and_then}
+use Rattle.std.specs.Prelude.{option_map}
 use Rattle.pg_drawing.specs.Prelude.{Bytes, Cert}
 use Rattle.pg_text.specs.Text.{number, two_parts}
 use Rattle.pg_cert.specs.declared.cert.Claim.{Claim}

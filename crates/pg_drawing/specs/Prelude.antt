@@ -11,15 +11,21 @@ pub use Rattle.pg_io.specs.Console.{ConsoleTold, Grows}
 pub use Rattle.pg_io.specs.Files.{Bytes, Holding, IsAbsent, ReadsOnly}
 pub use Rattle.pg_io.specs.declared.stop.Stop.TheVariants.{Memory, Read, Write}
 pub use Rattle.pg_messages.specs.Statuses.{refusal_status}
-pub use Rattle.pg_messages.specs.declared.refusal.Refusal.TheVariants.{Certificate, NoClaim, NoMeaning, Record, Rejected, RejectedImage, RejectedSpan, RejectedVectors}
-pub use Rattle.pg_messages.specs.declared.statuses.TheConstants.{DONE, FAULTY_GAME, NO_MEANING, NO_MEMORY, READ_FAILED, REFUSED, WRITE_FAILED}
+pub use Rattle.pg_messages.specs.declared.refusal.Refusal.TheVariants.{Certificate, NoClaim}
+pub use Rattle.pg_messages.specs.declared.refusal.Refusal.TheVariants.{NoMeaning, Record, Rejected}
+pub use Rattle.pg_messages.specs.declared.refusal.Refusal.TheVariants.{RejectedImage, RejectedSpan}
+pub use Rattle.pg_messages.specs.declared.refusal.Refusal.TheVariants.{RejectedVectors}
+pub use Rattle.pg_messages.specs.declared.statuses.TheConstants.{DONE, FAULTY_GAME, NO_MEANING}
+pub use Rattle.pg_messages.specs.declared.statuses.TheConstants.{NO_MEMORY, READ_FAILED, REFUSED}
+pub use Rattle.pg_messages.specs.declared.statuses.TheConstants.{WRITE_FAILED}
 pub use Rattle.pg_scene.specs.Scenes.{IsSceneOfGame, IsSceneOfNode, LacksNode}
 pub use Rattle.pg_span.specs.Valid.{IsFirstFlaw, IsSpanValid}
 pub use Rattle.pg_span.specs.declared.cert.SpanCert.{SpanCert}
 pub use Rattle.pg_span.specs.declared.game.SpanGame.{SpanGame}
 pub use Rattle.pg_talk.specs.Halts.{HaltCauses, HasCause, IsGameHalt, IsReadHalt, stop_status}
 pub use Rattle.pg_talk.specs.Opening.{IsSaidBy, game_held}
-pub use Rattle.pg_talk.specs.Reading.{IsLackingOne, IsLackingTwo, IsReadAs, Opens, OpensCertificate, certificate_held, game_fault, held_as}
+pub use Rattle.pg_talk.specs.Reading.{IsLackingOne, IsLackingTwo, IsReadAs, Opens, OpensCertificate}
+pub use Rattle.pg_talk.specs.Reading.{certificate_held, game_fault, held_as}
 pub use Rattle.pg_talk.specs.declared.halt.Halt.{Halt}
 pub use Rattle.pg_talk.specs.declared.halt.Halt.TheVariants.{Refused, Stopped}
 pub use Rattle.pg_text.specs.declared.error.FileError.{FileError}

@@ -1,6 +1,10 @@
 -- WHAT A RUN IS.
-use Rattle.std.specs.Prelude.{◌≡◌, ◌⊎◌, ℕ, List, [], ◌∷◌, Option, Some, None, Result, Ok, Err, IfSome}
-use Rattle.pg_drawing.specs.Prelude.{ConsoleTold, Grows, Bytes, Holding, NoMeaning, DONE, NO_MEANING, FAULTY_GAME, REFUSED, READ_FAILED, WRITE_FAILED, NO_MEMORY, IsGameHalt, IsReadHalt, IsLackingOne, IsLackingTwo, Halt, Refused}
+use Rattle.std.specs.Prelude.{◌≡◌, ◌⊎◌, ℕ, List, [], ◌∷◌, Option, Some, None, Result, Ok, Err}
+use Rattle.std.specs.Prelude.{IfSome}
+use Rattle.pg_drawing.specs.Prelude.{ConsoleTold, Grows, Bytes, Holding, NoMeaning, DONE}
+use Rattle.pg_drawing.specs.Prelude.{NO_MEANING, FAULTY_GAME, REFUSED, READ_FAILED, WRITE_FAILED}
+use Rattle.pg_drawing.specs.Prelude.{NO_MEMORY, IsGameHalt, IsReadHalt, IsLackingOne, IsLackingTwo}
+use Rattle.pg_drawing.specs.Prelude.{Halt, Refused}
 use Rattle.pg_io.specs.Causes.{Rose}
 use Rattle.pg_io.specs.declared.entry.Entry.TheVariants.{Said}
 use Rattle.pg_drawing.specs.Boards.{board_held, both_held}

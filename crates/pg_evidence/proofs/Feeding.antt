@@ -1,12 +1,19 @@
 -- The nodes of an unfolding, fed to a checking one after the other.
-use Rattle.std.proofs.Common.{◌≡◌, ◌∙◌, ℕ, zero, suc, ◌+◌, ◌-◌, ◌<◌, ◌≤◌, List, [], ◌∷◌, ◌++◌, length, map, replicate, take, Option, Some, None, slice_get, get_or, refl, sym, ap, subst, arith}
+use Rattle.std.proofs.Common.{◌≡◌, ◌∙◌, ℕ, zero, suc, ◌+◌, ◌-◌, ◌<◌, ◌≤◌, List, [], ◌∷◌, ◌++◌}
+use Rattle.std.proofs.Common.{length, map, replicate, take, Option, Some, None, slice_get, get_or}
+use Rattle.std.proofs.Common.{refl, sym, ap, subst, arith}
 use Rattle.std.specs.Prelude.{IfSome}
 use Rattle.std.specs.List.{All, AllZip}
-use Rattle.std.proofs.lemmas.List.{append-nil, append_assoc, flat_map_more, length-append, length-replicate, length-take-le, map-append, map_push, take_all, take_more}
+use Rattle.std.proofs.lemmas.List.{append-nil, append_assoc, flat_map_more, length-append}
+use Rattle.std.proofs.lemmas.List.{length-replicate, length-take-le, map-append, map_push, take_all}
+use Rattle.std.proofs.lemmas.List.{take_more}
 use Rattle.std.proofs.lemmas.Option.{slice_get_read}
 use Rattle.std.proofs.lemmas.List.Elements.{All-append, All-nil, All-push, All-replicate}
 use Rattle.std.proofs.lemmas.List.Sums.{sum_by_more_le, sum_by_push}
-use Rattle.pg_evidence.proofs.Common.{AreUnfolded, BeginCert, Claim, Game, ImageCert, ImageClaim, IsClaim, IsFirstFault, IsImageWithinLimits, IsNode, IsUnfolded, IsValid, IsWithinLimits, Node, Part, Unfolded, all_parts}
+use Rattle.pg_evidence.proofs.Common.{AreUnfolded, BeginCert, Claim, Game, ImageCert, ImageClaim}
+use Rattle.pg_evidence.proofs.Common.{IsClaim, IsFirstFault, IsImageWithinLimits, IsNode}
+use Rattle.pg_evidence.proofs.Common.{IsUnfolded, IsValid, IsWithinLimits, Node, Part, Unfolded}
+use Rattle.pg_evidence.proofs.Common.{all_parts}
 use Rattle.pg_base.specs.declared.goal.Goal.{Goal}
 use Rattle.pg_base.specs.declared.side.Side.{Side}
 use Rattle.pg_base.specs.declared.side.Side.TheVariants.{X}
@@ -19,7 +26,8 @@ use Rattle.std.specs.Ordering.{nat_cmp}
 use Rattle.pg_check.specs.Checking.{AreNext, IsWhole, StandsFor as IsChecked}
 use Rattle.pg_check.specs.declared.checking.Checking.{Checking}
 use Rattle.pg_unfold.specs.Flaws.{IsFaultless, IsSoundClaim}
-use Rattle.pg_unfold.specs.Layouts.{AreCopiedBelow, AreLaidOut, IsLaidOut, copy_count, origins_in, size_in, with_next}
+use Rattle.pg_unfold.specs.Layouts.{AreCopiedBelow, AreLaidOut, IsLaidOut, copy_count, origins_in}
+use Rattle.pg_unfold.specs.Layouts.{size_in, with_next}
 use Rattle.pg_unfold.specs.declared.layout.Layout.{Layout}
 use Rattle.pg_unfold.proofs.Layouts.{all-copied, copied-none, few-below, taken-laid}
 use Rattle.pg_unfold.proofs.ClaimSteps.{zip-length}

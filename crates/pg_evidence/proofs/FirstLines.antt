@@ -1,7 +1,10 @@
 -- A text shows by its first bytes whether it has images.
-use Rattle.std.proofs.Common.{◌≡◌, ℕ, ◌≤◌, ◌<◌, Bool, true, false, [], ◌∷◌, ◌++◌, length, nat_lt, Option, Some, None, eqb-true, arith, refl, sym, ◌∙◌, ap, subst, inl, inr}
+use Rattle.std.proofs.Common.{◌≡◌, ℕ, ◌≤◌, ◌<◌, Bool, true, false, [], ◌∷◌, ◌++◌, length, nat_lt}
+use Rattle.std.proofs.Common.{Option, Some, None, eqb-true, arith, refl, sym, ◌∙◌, ap, subst, inl}
+use Rattle.std.proofs.Common.{inr}
 use Rattle.std.specs.Prelude.{◌==◌, ◌⊎◌}
-use Rattle.pg_evidence.proofs.Common.{bytes_eq, append_assoc, length-append, Lacks, Bytes, image_header}
+use Rattle.pg_evidence.proofs.Common.{bytes_eq, append_assoc, length-append, Lacks, Bytes}
+use Rattle.pg_evidence.proofs.Common.{image_header}
 use Rattle.std.proofs.lemmas.Bool.{or_parts}
 use Rattle.std.proofs.lemmas.Bool.Decides.{nat_tests}
 use Rattle.std.proofs.lemmas.List.Elements.{All-append, All-cons, All-nil}

@@ -1,7 +1,10 @@
 -- What a text says, and what is found of it.
-use Rattle.std.proofs.Common.{◌≡◌, ℕ, ◌+◌, Bool, true, false, nat_lt, [], length, take, Option, Some, None, Result, Ok, Err, refl, sym, ◌∙◌, ap, subst, if◌then◌else◌}
+use Rattle.std.proofs.Common.{◌≡◌, ℕ, ◌+◌, Bool, true, false, nat_lt, [], length, take, Option}
+use Rattle.std.proofs.Common.{Some, None, Result, Ok, Err, refl, sym, ◌∙◌, ap, subst, if◌then◌else◌}
 use Rattle.std.specs.Prelude.{IsErrAnd}
-use Rattle.pg_evidence.proofs.Common.{append-nil, and_then, Bytes, Holding, Cert, certificate, number_of, Fault, Game, ImageCert, image_certificate, certificate_fault, or_halt, Halt}
+use Rattle.pg_evidence.proofs.Common.{append-nil, and_then, Bytes, Holding, Cert, certificate}
+use Rattle.pg_evidence.proofs.Common.{number_of, Fault, Game, ImageCert, image_certificate}
+use Rattle.pg_evidence.proofs.Common.{certificate_fault, or_halt, Halt}
 use Rattle.pg_io.specs.Reading.{IsFile, IsWhole, Pours}
 use Rattle.pg_cert_lines.specs.declared.fault.Fault.TheVariants.{Size}
 use Rattle.pg_cert_files.specs.declared.limits.TheConstants.{MAX_CERT_BYTES}

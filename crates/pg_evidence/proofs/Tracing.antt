@@ -1,12 +1,17 @@
 -- From which node each node of an unfolding came.
-use Rattle.std.proofs.Common.{◌≡◌, ℕ, ◌<◌, List, [], ◌∷◌, length, map, slice_get, get_or, Option, Some, None, option_map, Result, Err, refl, sym, ◌∙◌, ap, ap₂, subst, arith}
-use Rattle.pg_evidence.proofs.Common.{length-map, IsWithinLimits, IsFirstFault, Cert, Claim, CheckFault, Game, ImageCert, ImageClaim, AreUnfolded, IsCopied, IsUnfolded, IsUnfoldedCert, Unfolded}
+use Rattle.std.proofs.Common.{◌≡◌, ℕ, ◌<◌, List, [], ◌∷◌, length, map, slice_get, get_or, Option}
+use Rattle.std.proofs.Common.{Some, None, option_map, Result, Err, refl, sym, ◌∙◌, ap, ap₂, subst}
+use Rattle.std.proofs.Common.{arith}
+use Rattle.pg_evidence.proofs.Common.{length-map, IsWithinLimits, IsFirstFault, Cert, Claim}
+use Rattle.pg_evidence.proofs.Common.{CheckFault, Game, ImageCert, ImageClaim, AreUnfolded}
+use Rattle.pg_evidence.proofs.Common.{IsCopied, IsUnfolded, IsUnfoldedCert, Unfolded}
 use Rattle.std.proofs.lemmas.Option.{slice_get-get_or, slice_get-map, slice_get_within}
 use Rattle.pg_check.specs.declared.checked.CheckFault.TheVariants.{Reject}
 use Rattle.pg_maps.specs.Images.{board_of}
 use Rattle.pg_unfold.specs.Copies.{Copy}
 use Rattle.pg_unfold.proofs.ClaimSteps.{zip-length}
-use Rattle.pg_evidence.specs.Standing.{CameFromIn, HasFault, HasFaultIn, HasSource, HaveSources, IsStanding, IsTraced, StandsFor}
+use Rattle.pg_evidence.specs.Standing.{CameFromIn, HasFault, HasFaultIn, HasSource, HaveSources}
+use Rattle.pg_evidence.specs.Standing.{IsStanding, IsTraced, StandsFor}
 use Rattle.pg_evidence.specs.declared.evidence.Evidence.{Evidence}
 use Rattle.pg_evidence.specs.declared.evidence.Evidence.TheVariants.{Plain, Folded}
 use Rattle.pg_evidence.specs.declared.standing.Standing.{Standing}

@@ -1,6 +1,9 @@
 -- A certificate as a file says it: with plain nodes alone, or with nodes that are images of others.
 use Rattle.std.specs.Prelude.{ℕ, Bool, false, if◌then◌else◌, List, [], ◌∷◌, Option, Result, Ok, ⊤}
-use Rattle.pg_evidence.specs.Prelude.{bytes_eq, and_then, lines, Bytes, Holding, IsWithinLimits, certificate, number_of, Fault, IsImageWithinLimits, image_header, image_certificate, IsReadHalt, Opens, certificate_fault, held_as, or_halt, Halt, Refused, Stopped}
+use Rattle.pg_evidence.specs.Prelude.{bytes_eq, and_then, lines, Bytes, Holding, IsWithinLimits}
+use Rattle.pg_evidence.specs.Prelude.{certificate, number_of, Fault, IsImageWithinLimits}
+use Rattle.pg_evidence.specs.Prelude.{image_header, image_certificate, IsReadHalt, Opens}
+use Rattle.pg_evidence.specs.Prelude.{certificate_fault, held_as, or_halt, Halt, Refused, Stopped}
 use Rattle.pg_io.specs.declared.stop.Stop.TheVariants.{Read, Write, Memory}
 use Rattle.pg_evidence.specs.declared.evidence.Evidence.{Evidence}
 use Rattle.pg_evidence.specs.declared.evidence.Evidence.TheVariants.{Plain, Folded}

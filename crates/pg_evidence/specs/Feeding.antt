@@ -1,6 +1,9 @@
 -- A checking that is fed with the nodes of an unfolding one after the other, and what it finds.
-use Rattle.std.specs.Prelude.{◌≡◌, ℕ, ◌+◌, ◌<◌, ◌≤◌, List, [], ◌∷◌, ◌++◌, length, map, sum_by, Option, Some, None, Result, Ok, Err}
-use Rattle.pg_evidence.specs.Prelude.{AreUnfolded, BeginCert, Claim, Game, ImageCert, ImageClaim, IsClaim, IsNode, IsUnfolded, MAX_CLAIMS, MAX_NODES, Node, Part, all_parts, node_count}
+use Rattle.std.specs.Prelude.{◌≡◌, ℕ, ◌+◌, ◌<◌, ◌≤◌, List, [], ◌∷◌, ◌++◌, length, map, sum_by}
+use Rattle.std.specs.Prelude.{Option, Some, None, Result, Ok, Err}
+use Rattle.pg_evidence.specs.Prelude.{AreUnfolded, BeginCert, Claim, Game, ImageCert, ImageClaim}
+use Rattle.pg_evidence.specs.Prelude.{IsClaim, IsNode, IsUnfolded, MAX_CLAIMS, MAX_NODES, Node}
+use Rattle.pg_evidence.specs.Prelude.{Part, all_parts, node_count}
 use Rattle.pg_cert.specs.declared.part.Part.TheVariants as parts
 use Rattle.std.specs.List.{All}
 use Rattle.pg_check.specs.Checking.{StandsFor as IsChecked}

@@ -1,5 +1,6 @@
 -- A certificate that comes piece by piece, while it isn't known yet in which form.
-use Rattle.std.specs.Prelude.{◌≡◌, Bool, true, false, ◌||◌, nat_lt, ◌++◌, length, Option, Some, None, option_map}
+use Rattle.std.specs.Prelude.{◌≡◌, Bool, true, false, ◌||◌, nat_lt, ◌++◌, length, Option, Some}
+use Rattle.std.specs.Prelude.{None, option_map}
 use Rattle.pg_evidence.specs.Prelude.{Bytes, Game}
 use Rattle.pg_judge.specs.Judged.{StandsFor as HasBeenFed}
 use Rattle.pg_evidence.specs.Evidence.{has_images}

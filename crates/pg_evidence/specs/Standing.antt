@@ -1,6 +1,8 @@
 -- The certificate for which one as a file says it stands, and what stands against it.
-use Rattle.std.specs.Prelude.{◌≡◌, ◌⊎◌, ℕ, List, length, map, Option, Some, None, Result, Ok, Err, slice_get, ⊤}
-use Rattle.pg_evidence.specs.Prelude.{IsWithinLimits, IsFirstFault, IsValid, Cert, Claim, Game, ImageCert, IsUnfoldedCert, Unfolded, Halt, Refused, Stopped}
+use Rattle.std.specs.Prelude.{◌≡◌, ◌⊎◌, ℕ, List, length, map, Option, Some, None, Result, Ok, Err}
+use Rattle.std.specs.Prelude.{slice_get, ⊤}
+use Rattle.pg_evidence.specs.Prelude.{IsWithinLimits, IsFirstFault, IsValid, Cert, Claim, Game}
+use Rattle.pg_evidence.specs.Prelude.{ImageCert, IsUnfoldedCert, Unfolded, Halt, Refused, Stopped}
 use Rattle.pg_messages.specs.declared.refusal.Refusal.{Refusal}
 use Rattle.pg_messages.specs.declared.refusal.Refusal.TheVariants.{Rejected, RejectedImage}
 use Rattle.pg_unfold.specs.Flaws.{IsFaultless, IsFirstFault as IsFirstImageFault}

@@ -1,6 +1,9 @@
 -- Steps up from two labels, until they meet.
-use Rattle.std.proofs.Common.{◌≡◌, ◌≢◌, ℕ, ◌<◌, ◌≤◌, Bool, true, false, inl, inr, refl, sym, ap, ◌∙◌, subst, arith}
-use Rattle.pg_exchange.proofs.Common.{both_ways, false_from_ne_true, plus, minus, plus_cases, plus_old, plus_new, minus_parts, IsJoined, joined_on, joined_back, joined_more}
+use Rattle.std.proofs.Common.{◌≡◌, ◌≢◌, ℕ, ◌<◌, ◌≤◌, Bool, true, false, inl, inr, refl, sym, ap}
+use Rattle.std.proofs.Common.{◌∙◌, subst, arith}
+use Rattle.pg_exchange.proofs.Common.{both_ways, false_from_ne_true, plus, minus, plus_cases}
+use Rattle.pg_exchange.proofs.Common.{plus_old, plus_new, minus_parts, IsJoined, joined_on}
+use Rattle.pg_exchange.proofs.Common.{joined_back, joined_more}
 use Rattle.pg_exchange.specs.Path.{HasEnds, IsStep, IsPath, IsClimbed}
 use Rattle.pg_exchange.proofs.PathLemmas.{IsTrail-begin, IsTrail-step, stays}
 

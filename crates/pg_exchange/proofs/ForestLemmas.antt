@@ -1,6 +1,12 @@
 -- Spanning forests, an edge at a time.
-use Rattle.std.proofs.Common.{◌≡◌, ℕ, ◌<◌, ◌+◌, Bool, true, false, not, ◌||◌, eqb, refl, inl, inr, sym, subst, arith}
-use Rattle.pg_exchange.proofs.Common.{fun_ext, cases_eq, cases_Bool, and_parts, or_cases, eqb-true, both_ways, plus, both, either, outside, below, IsWithin, IsBelow, plus_cases, plus_old, plus_new, both_parts, both_from, either_left, either_right, either_cases, outside_parts, outside_from, below_parts, below_from, Graph, edge_count, AreEdges, IsSpan, IsBase, spans_mono, free_plus}
+use Rattle.std.proofs.Common.{◌≡◌, ℕ, ◌<◌, ◌+◌, Bool, true, false, not, ◌||◌, eqb, refl, inl, inr}
+use Rattle.std.proofs.Common.{sym, subst, arith}
+use Rattle.pg_exchange.proofs.Common.{fun_ext, cases_eq, cases_Bool, and_parts, or_cases, eqb-true}
+use Rattle.pg_exchange.proofs.Common.{both_ways, plus, both, either, outside, below, IsWithin}
+use Rattle.pg_exchange.proofs.Common.{IsBelow, plus_cases, plus_old, plus_new, both_parts}
+use Rattle.pg_exchange.proofs.Common.{both_from, either_left, either_right, either_cases}
+use Rattle.pg_exchange.proofs.Common.{outside_parts, outside_from, below_parts, below_from, Graph}
+use Rattle.pg_exchange.proofs.Common.{edge_count, AreEdges, IsSpan, IsBase, spans_mono, free_plus}
 use Rattle.pg_exchange.specs.Matroid.{Matroid}
 use Rattle.pg_exchange.specs.Forest.{elements_of, IsApart, IsFree, IsGrown}
 

@@ -1,8 +1,12 @@
 -- A search that goes level by level.
-use Rattle.std.proofs.Common.{◌≡◌, ℕ, Bool, true, false, ◌⊎◌, inl, inr, refl, arith, sym, ◌∙◌, ap, ◌≤◌, subst, suc, zero, cond}
-use Rattle.pg_exchange.proofs.Common.{both_ways, cases_Bool, cases_lt, false_from_ne_true, either, outside, IsWithin, either_cases, either_left, either_right, outside_parts}
+use Rattle.std.proofs.Common.{◌≡◌, ℕ, Bool, true, false, ◌⊎◌, inl, inr, refl, arith, sym, ◌∙◌, ap}
+use Rattle.std.proofs.Common.{◌≤◌, subst, suc, zero, cond}
+use Rattle.pg_exchange.proofs.Common.{both_ways, cases_Bool, cases_lt, false_from_ne_true, either}
+use Rattle.pg_exchange.proofs.Common.{outside, IsWithin, either_cases, either_left, either_right}
+use Rattle.pg_exchange.proofs.Common.{outside_parts}
 use Rattle.pg_exchange.specs.Matroid.{Matroid}
-use Rattle.pg_exchange.specs.Chain.{links, LeadsIn, IsNearest, IsShortest, IsSearch, IsLevelled, IsRolled, IsNext}
+use Rattle.pg_exchange.specs.Chain.{links, LeadsIn, IsNearest, IsShortest, IsSearch, IsLevelled}
+use Rattle.pg_exchange.specs.Chain.{IsRolled, IsNext}
 use Rattle.pg_exchange.specs.Chain.LeadsIn.{at_once, further}
 
 -- a link before a chain

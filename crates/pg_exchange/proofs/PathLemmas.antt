@@ -1,10 +1,16 @@
 -- Spreading along members, and following the steps back.
-use Rattle.std.proofs.Common.{◌≡◌, ◌≢◌, ℕ, ◌<◌, Bool, true, false, ◌⊎◌, List, [], ◌∷◌, length, refl, inl, inr, sym, ap, ◌∙◌, subst, arith, suc}
+use Rattle.std.proofs.Common.{◌≡◌, ◌≢◌, ℕ, ◌<◌, Bool, true, false, ◌⊎◌, List, [], ◌∷◌, length, refl}
+use Rattle.std.proofs.Common.{inl, inr, sym, ap, ◌∙◌, subst, arith, suc}
 use Rattle.std.proofs.lemmas.List.{get_or-set_other, get_or-set_same}
-use Rattle.pg_exchange.proofs.Common.{set, IsBelow, IsWithin, cases_Bool, cases_eq, both_ways, false_from_ne_true, true_from_ne_false, plus, minus, either, plus_cases, plus_old, plus_new, minus_parts, either_right, IsWalk, IsJoined, joined_self, joined_on, joined_edge, joined_back, joined_more}
+use Rattle.pg_exchange.proofs.Common.{set, IsBelow, IsWithin, cases_Bool, cases_eq, both_ways}
+use Rattle.pg_exchange.proofs.Common.{false_from_ne_true, true_from_ne_false, plus, minus, either}
+use Rattle.pg_exchange.proofs.Common.{plus_cases, plus_old, plus_new, minus_parts, either_right}
+use Rattle.pg_exchange.proofs.Common.{IsWalk, IsJoined, joined_self, joined_on, joined_edge}
+use Rattle.pg_exchange.proofs.Common.{joined_back, joined_more}
 use Rattle.pg_graph.proofs.Crossing.{find_crossing}
 use Rattle.pg_exchange.specs.declared.path.Step.{Step}
-use Rattle.pg_exchange.specs.Path.{HasEnds, no_step, above_of, via_of, IsStep, IsSpread, SpreadsOn, IsFound, IsPath, IsSide, IsTrail, IsTraced}
+use Rattle.pg_exchange.specs.Path.{HasEnds, no_step, above_of, via_of, IsStep, IsSpread, SpreadsOn}
+use Rattle.pg_exchange.specs.Path.{IsFound, IsPath, IsSide, IsTrail, IsTraced}
 use Rattle.pg_exchange.proofs.TreeLemmas.{numbered, numbered_self, numbered_other}
 
 -- ---- the step of one label is written

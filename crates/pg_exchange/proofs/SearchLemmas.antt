@@ -1,5 +1,9 @@
-use Rattle.std.proofs.Common.{◌≡◌, ℕ, Bool, true, false, ◌⊎◌, inl, inr, refl, sym, ◌∙◌, ◌≢◌, ◌<◌, subst, cond, List, length, get_or}
-use Rattle.pg_exchange.proofs.Common.{set, both_ways, cases_Bool, cases_eq, false_from_ne_true, true_from_ne_false, minus, either, outside, IsWithin, minus_parts, minus_from, either_cases, either_left, either_right, outside_parts, outside_from}
+use Rattle.std.proofs.Common.{◌≡◌, ℕ, Bool, true, false, ◌⊎◌, inl, inr, refl, sym, ◌∙◌, ◌≢◌, ◌<◌}
+use Rattle.std.proofs.Common.{subst, cond, List, length, get_or}
+use Rattle.pg_exchange.proofs.Common.{set, both_ways, cases_Bool, cases_eq, false_from_ne_true}
+use Rattle.pg_exchange.proofs.Common.{true_from_ne_false, minus, either, outside, IsWithin}
+use Rattle.pg_exchange.proofs.Common.{minus_parts, minus_from, either_cases, either_left}
+use Rattle.pg_exchange.proofs.Common.{either_right, outside_parts, outside_from}
 use Rattle.std.proofs.lemmas.List.{get_or-set_other, get_or-set_same}
 use Rattle.pg_exchange.specs.Matroid.{Matroid}
 use Rattle.pg_exchange.specs.declared.search.Parent.{Parent}

@@ -1,5 +1,10 @@
-use Rattle.std.proofs.Common.{◌≡◌, ℕ, Bool, true, false, ◌⊎◌, inl, inr, refl, arith, sym, ◌∙◌, ap, ◌≢◌, ◌<◌, ◌≤◌, ◌+◌, subst, suc, zero, eqb, ltb, cond}
-use Rattle.pg_exchange.proofs.Common.{both_ways, cases_Bool, false_from_ne_true, true_from_ne_false, and_parts, and_from, eq-eqb, ne_eqb, ltb-true, lt-ltb, minus, either, IsWithin, IsBelow, one_if, count, IsSpan, IsBase, circuit, swapped, either_left, either_right, count_minus, count_less, circuit_parts}
+use Rattle.std.proofs.Common.{◌≡◌, ℕ, Bool, true, false, ◌⊎◌, inl, inr, refl, arith, sym, ◌∙◌, ap}
+use Rattle.std.proofs.Common.{◌≢◌, ◌<◌, ◌≤◌, ◌+◌, subst, suc, zero, eqb, ltb, cond}
+use Rattle.pg_exchange.proofs.Common.{both_ways, cases_Bool, false_from_ne_true, true_from_ne_false}
+use Rattle.pg_exchange.proofs.Common.{and_parts, and_from, eq-eqb, ne_eqb, ltb-true, lt-ltb, minus}
+use Rattle.pg_exchange.proofs.Common.{either, IsWithin, IsBelow, one_if, count, IsSpan, IsBase}
+use Rattle.pg_exchange.proofs.Common.{circuit, swapped, either_left, either_right, count_minus}
+use Rattle.pg_exchange.proofs.Common.{count_less, circuit_parts}
 use Rattle.pg_exchange.specs.Matroid.{Matroid}
 use Rattle.pg_exchange.specs.Chain.{links, IsNearest, IsTree, IsShifted, lower, SomeTree, SomeShift}
 use Rattle.pg_exchange.specs.Chain.LeadsIn.{at_once}

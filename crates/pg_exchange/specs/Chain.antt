@@ -1,5 +1,7 @@
-use Rattle.std.specs.Prelude.{◌≡◌, ℕ, ◌+◌, ◌<◌, ◌≤◌, ◌==◌, Bool, true, false, not, ◌&&◌, nat_lt, if◌then◌else◌, List, slice_index_or, suc, ◌⊎◌}
-use Rattle.pg_exchange.specs.Prelude.{MAX_MEMBERS, IsWithin, either, both, outside, count, one_if, IsBase, IsReached, circuit}
+use Rattle.std.specs.Prelude.{◌≡◌, ℕ, ◌+◌, ◌<◌, ◌≤◌, ◌==◌, Bool, true, false, not, ◌&&◌, nat_lt}
+use Rattle.std.specs.Prelude.{if◌then◌else◌, List, slice_index_or, suc, ◌⊎◌}
+use Rattle.pg_exchange.specs.Prelude.{MAX_MEMBERS, IsWithin, either, both, outside, count, one_if}
+use Rattle.pg_exchange.specs.Prelude.{IsBase, IsReached, circuit}
 use Rattle.pg_exchange.specs.Matroid.{Matroid}
 use Rattle.pg_exchange.specs.declared.search.Parent.{Parent}
 

@@ -1,6 +1,7 @@
 -- Spanning forests: bases of the edges that two sets leave, over the edges of the first.
 use Rattle.std.specs.Prelude.{◌≡◌, ℕ, Bool, true, false, not, ◌&&◌, ◌||◌, ◌==◌}
-use Rattle.pg_exchange.specs.Prelude.{either, below, minus, outside, IsWithin, Graph, edge_count, spans_in}
+use Rattle.pg_exchange.specs.Prelude.{either, below, minus, outside, IsWithin, Graph, edge_count}
+use Rattle.pg_exchange.specs.Prelude.{spans_in}
 use Rattle.pg_exchange.specs.Matroid.{Matroid}
 
 -- what elements span together with the edges of x: the edges whose ends they join

@@ -1,6 +1,8 @@
 -- Paths along the members of a base. Edge k joins a k and b k.
-use Rattle.std.specs.Prelude.{◌≡◌, ◌≢◌, ◌⊎◌, ◌<◌, ◌≤◌, ℕ, Bool, true, false, List, length, slice_index, slice_index_or}
-use Rattle.pg_exchange.specs.Prelude.{MAX_MEMBERS, minus, IsWithin, IsBelow, Graph, IsGraph, first_end_of, second_end_of, IsJoined}
+use Rattle.std.specs.Prelude.{◌≡◌, ◌≢◌, ◌⊎◌, ◌<◌, ◌≤◌, ℕ, Bool, true, false, List, length}
+use Rattle.std.specs.Prelude.{slice_index, slice_index_or}
+use Rattle.pg_exchange.specs.Prelude.{MAX_MEMBERS, minus, IsWithin, IsBelow, Graph, IsGraph}
+use Rattle.pg_exchange.specs.Prelude.{first_end_of, second_end_of, IsJoined}
 use Rattle.pg_exchange.specs.declared.path.Step.{Step}
 
 -- the label of the first end of edge k

@@ -3,12 +3,14 @@ pub use Rattle.pg_base.specs.Points.{AreBelow, ShareNone}
 pub use Rattle.pg_base.specs.Sets.{IsBelow, IsWithin, below, either, minus, one_if, outside}
 unfoldable pub use Rattle.pg_base.specs.Sets.{both, count, plus}
 pub use Rattle.pg_base.specs.declared.limits.TheConstants.{MAX_MEMBERS}
-pub use Rattle.pg_graph.specs.Graph.{IsGraph, IsJoinedIn, edge_count, first_end_of, second_end_of, spans_in}
+pub use Rattle.pg_graph.specs.Graph.{IsGraph, IsJoinedIn, edge_count, first_end_of, second_end_of}
+pub use Rattle.pg_graph.specs.Graph.{spans_in}
 pub use Rattle.pg_graph.specs.Joiner.{AreEdges, IsMadeFor}
 pub use Rattle.pg_graph.specs.Labels.{AreLabels}
 pub use Rattle.pg_graph.specs.Span.{IsBase, IsReached, IsSpan, circuit}
 unfoldable pub use Rattle.pg_graph.specs.Span.{swapped}
 pub use Rattle.pg_graph.specs.Walks.{IsJoined, IsWalk}
 pub use Rattle.pg_graph.specs.declared.graph.Graph.{Graph}
-pub use Rattle.std.specs.FinSet.{FinSet, contains, contains-empty, difference, empty, insert, remove, union}
+pub use Rattle.std.specs.FinSet.{FinSet, contains, contains-empty, difference, empty, insert}
+pub use Rattle.std.specs.FinSet.{remove, union}
 pub use Rattle.std.specs.Ordering.{nat_cmp}

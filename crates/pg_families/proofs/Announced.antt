@@ -1,12 +1,21 @@
 -- Texts that accept a claim or say one, and which claims are forced where entries say such texts;
 -- for games of any family.
-use Rattle.std.proofs.Common.{◌≡◌, ◌≢◌, ◌⊎◌, ℕ, zero, suc, nat_eq, false, List, [], ◌∷◌, ◌++◌, get_or, map, slice_get, Option, Some, None, Result, Ok, Err, refl, sym, ap, subst, inl, inr, arith}
+use Rattle.std.proofs.Common.{◌≡◌, ◌≢◌, ◌⊎◌, ℕ, zero, suc, nat_eq, false, List, [], ◌∷◌, ◌++◌}
+use Rattle.std.proofs.Common.{get_or, map, slice_get, Option, Some, None, Result, Ok, Err, refl}
+use Rattle.std.proofs.Common.{sym, ap, subst, inl, inr, arith}
 use Rattle.std.specs.Prelude.{codes}
-use Rattle.pg_families.proofs.Common.{Contains, nat_tests, append_cancel_left, Contains-append_left, Contains-append_right, Contains-append_cases, Goal, Win, Draw, Side, X, Y, Bytes, Making, Entry, Said, accepted_text, claim_text, reply_text, Contender, Done, End, Finished, Failed, Starved, IsPlay, both, held_as, or_halt, SaysAll, Delivers, Halt}
+use Rattle.pg_families.proofs.Common.{Contains, nat_tests, append_cancel_left, Contains-append_left}
+use Rattle.pg_families.proofs.Common.{Contains-append_right, Contains-append_cases, Goal, Win, Draw}
+use Rattle.pg_families.proofs.Common.{Side, X, Y, Bytes, Making, Entry, Said, accepted_text}
+use Rattle.pg_families.proofs.Common.{claim_text, reply_text, Contender, Done, End, Finished}
+use Rattle.pg_families.proofs.Common.{Failed, Starved, IsPlay, both, held_as, or_halt, SaysAll}
+use Rattle.pg_families.proofs.Common.{Delivers, Halt}
 use Rattle.pg_base.specs.Goal.{goal_word}
 use Rattle.pg_base.specs.Side.{side_word}
 use Rattle.pg_messages.specs.declared.message.ReplyFault.{ReplyFault}
-use Rattle.pg_messages.specs.declared.message.ReplyFault.TheVariants.{NoNumber, NoPoint, Taken, Over as GameOver, NothingToTakeBack}
+use Rattle.pg_messages.specs.declared.message.ReplyFault.TheVariants.{NoNumber, NoPoint, Taken}
+use Rattle.pg_messages.specs.declared.message.ReplyFault.TheVariants.{Over as GameOver}
+use Rattle.pg_messages.specs.declared.message.ReplyFault.TheVariants.{NothingToTakeBack}
 use Rattle.pg_talk.specs.Contest.{Contest}
 use Rattle.pg_talk.specs.Dialogue.{Stage, At, Owes, Over, Steps, Leads}
 use Rattle.pg_families.specs.Family.{AreForcedBy}

@@ -1,7 +1,9 @@
 -- Commands of families, put together.
 use Rattle.std.proofs.Common.{◌≡◌, ℕ, Option, Some, None, Result, Ok, Err, refl, subst, inl, inr}
 use Rattle.std.specs.Prelude.{IfErr, IfSome}
-use Rattle.pg_families.proofs.Common.{ConsoleTold, Holding, FilesTold, Refusal, Done, End, Finished, Does, Follows, stop_end, IsPlayHalt, IsTalkHalt, Runs, Halt, Refused, Stopped}
+use Rattle.pg_families.proofs.Common.{ConsoleTold, Holding, FilesTold, Refusal, Done, End, Finished}
+use Rattle.pg_families.proofs.Common.{Does, Follows, stop_end, IsPlayHalt, IsTalkHalt, Runs, Halt}
+use Rattle.pg_families.proofs.Common.{Refused, Stopped}
 
 -- work on files and a console that refuses nothing, behind reading that changes nothing
 pub runs_does : (Against : Holding → Refusal → Type 0) (Act : Holding → Done → End → Type 0)

@@ -1,6 +1,14 @@
 -- Claims of families' games that are said are forced.
-use Rattle.std.proofs.Common.{◌≡◌, ℕ, zero, suc, List, [], ◌∷◌, length, slice_get, Option, Some, Result, Ok, Err, refl, sym, ap, subst, arith}
-use Rattle.pg_families.proofs.Common.{All, All-head, All-tail, Goal, Win, Side, Bytes, ForcesBy, printed_certificate, Cert, Claim, Class, Short, Cut, marks_at, span_rules_of, IsSpanClaimValid, IsSpanValid, SpanCert, SpanClaim, SpanGame, SpanClass, Maker, Breaker, First, IsVecClaimValid, IsVecValid, at_turn, vector_rules, span_game, vector_game, printed_span, span_entry, vector_entry, Family, Connectivity, Vectors, FamilyTask, Solve, Check, Play, Done, End, certificate_held, Halt}
+use Rattle.std.proofs.Common.{◌≡◌, ℕ, zero, suc, List, [], ◌∷◌, length, slice_get, Option, Some}
+use Rattle.std.proofs.Common.{Result, Ok, Err, refl, sym, ap, subst, arith}
+use Rattle.pg_families.proofs.Common.{All, All-head, All-tail, Goal, Win, Side, Bytes, ForcesBy}
+use Rattle.pg_families.proofs.Common.{printed_certificate, Cert, Claim, Class, Short, Cut, marks_at}
+use Rattle.pg_families.proofs.Common.{span_rules_of, IsSpanClaimValid, IsSpanValid, SpanCert}
+use Rattle.pg_families.proofs.Common.{SpanClaim, SpanGame, SpanClass, Maker, Breaker, First}
+use Rattle.pg_families.proofs.Common.{IsVecClaimValid, IsVecValid, at_turn, vector_rules, span_game}
+use Rattle.pg_families.proofs.Common.{vector_game, printed_span, span_entry, vector_entry, Family}
+use Rattle.pg_families.proofs.Common.{Connectivity, Vectors, FamilyTask, Solve, Check, Play, Done}
+use Rattle.pg_families.proofs.Common.{End, certificate_held, Halt}
 use Rattle.std.proofs.lemmas.Option.{none-some}
 use Rattle.pg_base.proofs.Stands.{same_some}
 use Rattle.pg_cert.specs.declared.cert.Version.{Version}
@@ -10,10 +18,14 @@ use Rattle.pg_span.proofs.Opening as span_opening
 use Rattle.pg_gf2.specs.declared.flaw.VecFlaw.TheVariants as flaws
 use Rattle.pg_gf2.specs.declared.game.VecGame.{VecGame}
 use Rattle.pg_vec_player.proofs.Opening as vector_opening
-use Rattle.pg_families.specs.Connectivity.{HasSpanClaim, SolvesSpan, span_both_held, span_cert_held, span_class_text, span_contender, span_held}
-use Rattle.pg_families.specs.Vectors.{HasVecClaim, SolvesVectors, vec_class_text, vec_contender, vectors_both_held, vectors_held}
-use Rattle.pg_families.specs.Family.{ActsInFamily, AreForcedInFamily, IsForcedInFamily, IsForcedInFamilyFrom, SaysSpanGame, SaysVectorGame}
-use Rattle.pg_families.proofs.Announced.{AreOther, accepts_forced, apart, delivers_other, first_ok, held_there, one_other, others_forced, plays_forced}
+use Rattle.pg_families.specs.Connectivity.{HasSpanClaim, SolvesSpan, span_both_held, span_cert_held}
+use Rattle.pg_families.specs.Connectivity.{span_class_text, span_contender, span_held}
+use Rattle.pg_families.specs.Vectors.{HasVecClaim, SolvesVectors, vec_class_text, vec_contender}
+use Rattle.pg_families.specs.Vectors.{vectors_both_held, vectors_held}
+use Rattle.pg_families.specs.Family.{ActsInFamily, AreForcedInFamily, IsForcedInFamily}
+use Rattle.pg_families.specs.Family.{IsForcedInFamilyFrom, SaysSpanGame, SaysVectorGame}
+use Rattle.pg_families.proofs.Announced.{AreOther, accepts_forced, apart, delivers_other, first_ok}
+use Rattle.pg_families.proofs.Announced.{held_there, one_other, others_forced, plays_forced}
 
 -- each valid claim of a connectivity game is forced
 abbrev pub SpanClaimsForce : Type 0

@@ -1,6 +1,11 @@
 -- Checks and plays of a family's games on a console.
-use Rattle.std.proofs.Common.{◌≡◌, ℕ, List, [], map, Option, Result, Ok, Err, refl, sym, subst, inl, inr}
-use Rattle.pg_families.proofs.Common.{Side, ConsoleTold, Grows, Bytes, FilesTold, Entry, Said, Write, Refusal, NoClaim, DONE, Contender, End, Finished, Failed, Starved, Performs, stop_end, IsPlay, OpensTwo, Runs, IsCut, Halt, Refused, Stopped, not_opened_two, opened_two, performs_more, runs_halt, runs_read, silent, talked_texts}
+use Rattle.std.proofs.Common.{◌≡◌, ℕ, List, [], map, Option, Result, Ok, Err, refl, sym, subst, inl}
+use Rattle.std.proofs.Common.{inr}
+use Rattle.pg_families.proofs.Common.{Side, ConsoleTold, Grows, Bytes, FilesTold, Entry, Said}
+use Rattle.pg_families.proofs.Common.{Write, Refusal, NoClaim, DONE, Contender, End, Finished}
+use Rattle.pg_families.proofs.Common.{Failed, Starved, Performs, stop_end, IsPlay, OpensTwo, Runs}
+use Rattle.pg_families.proofs.Common.{IsCut, Halt, Refused, Stopped, not_opened_two, opened_two}
+use Rattle.pg_families.proofs.Common.{performs_more, runs_halt, runs_read, silent, talked_texts}
 use Rattle.pg_io.specs.declared.stop.Stop.{Stop}
 use Rattle.pg_families.specs.Judged.{AcceptsValid, PlaysValid, RefusesChecked, RefusesPlayed}
 

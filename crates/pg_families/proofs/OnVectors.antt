@@ -1,9 +1,20 @@
 -- Checks, plays and classes of games on vectors.
-use Rattle.std.proofs.Common.{◌≡◌, ◌∙◌, ℕ, [], ◌∷◌, List, Option, Some, None, Result, Ok, Err, option_map, refl, ap, subst, inl}
+use Rattle.std.proofs.Common.{◌≡◌, ◌∙◌, ℕ, [], ◌∷◌, List, Option, Some, None, Result, Ok, Err}
+use Rattle.std.proofs.Common.{option_map, refl, ap, subst, inl}
 use Rattle.std.specs.Prelude.{IfOk}
-use Rattle.pg_families.proofs.Common.{Side, ConsoleTold, Bytes, FilesTold, Illegal, Position, IsFirstVecFault, IsVecValid, flaw_number, VecPlay, MakesVecMove, TakesVecReply, AnswersOnVectors, MovesOnVectors, chosen_vec_claim, plan_of_claim, vec_start, Cert, Claim, VecFlaw, VecGame, printed_certificate, Class, vector_entry, RejectedVectors, Answers, Contender, MakesMove, Moves, TakesReply, at, Does, Performs, IsPlay, Delivers, Halt, Refused, follows_more}
+use Rattle.pg_families.proofs.Common.{Side, ConsoleTold, Bytes, FilesTold, Illegal, Position}
+use Rattle.pg_families.proofs.Common.{IsFirstVecFault, IsVecValid, flaw_number, VecPlay}
+use Rattle.pg_families.proofs.Common.{MakesVecMove, TakesVecReply, AnswersOnVectors, MovesOnVectors}
+use Rattle.pg_families.proofs.Common.{chosen_vec_claim, plan_of_claim, vec_start, Cert, Claim}
+use Rattle.pg_families.proofs.Common.{VecFlaw, VecGame, printed_certificate, Class, vector_entry}
+use Rattle.pg_families.proofs.Common.{RejectedVectors, Answers, Contender, MakesMove, Moves}
+use Rattle.pg_families.proofs.Common.{TakesReply, at, Does, Performs, IsPlay, Delivers, Halt}
+use Rattle.pg_families.proofs.Common.{Refused, follows_more}
 use Rattle.pg_gf2.specs.declared.plan.VecPlan.{VecPlan}
-use Rattle.pg_families.specs.Vectors.{AcceptsVectors, HasVecClaim, LacksVecClaim, PlaysVectors, RefusesVectorCheck, RefusesVectorPlay, RejectsVectors, ShowsVecClass, SolvesVectorGame, vec_class_text, vec_contender, vec_player, vectors_pair}
+use Rattle.pg_families.specs.Vectors.{AcceptsVectors, HasVecClaim, LacksVecClaim, PlaysVectors}
+use Rattle.pg_families.specs.Vectors.{RefusesVectorCheck, RefusesVectorPlay, RejectsVectors}
+use Rattle.pg_families.specs.Vectors.{ShowsVecClass, SolvesVectorGame, vec_class_text}
+use Rattle.pg_families.specs.Vectors.{vec_contender, vec_player, vectors_pair}
 use Rattle.pg_families.proofs.Judging.{played_valid, refused_here}
 
 -- ---- what stands against a certificate

@@ -1,7 +1,11 @@
 -- What names hold, from what was read of them.
-use Rattle.std.proofs.Common.{◌≡◌, ◌+◌, ℕ, true, length, take, Option, Some, Result, Err, inl, inr, refl, ap, subst, arith}
+use Rattle.std.proofs.Common.{◌≡◌, ◌+◌, ℕ, true, length, take, Option, Some, Result, Err, inl, inr}
+use Rattle.std.proofs.Common.{refl, ap, subst, arith}
 use Rattle.std.specs.Prelude.{nat_lt}
-use Rattle.pg_families.proofs.Common.{nat_tests, take_all, Bytes, Holding, VecGame, SpanCert, SpanGame, span_game, vector_game, whole, span_cert, span_entry, vector_entry, IsReadAs, or_halt, Halt, cut_same, opens_whole, read_bad}
+use Rattle.pg_families.proofs.Common.{nat_tests, take_all, Bytes, Holding, VecGame, SpanCert}
+use Rattle.pg_families.proofs.Common.{SpanGame, span_game, vector_game, whole, span_cert}
+use Rattle.pg_families.proofs.Common.{span_entry, vector_entry, IsReadAs, or_halt, Halt, cut_same}
+use Rattle.pg_families.proofs.Common.{opens_whole, read_bad}
 use Rattle.std.proofs.lemmas.Bool.{cases_lt}
 use Rattle.pg_io.specs.Reading.{IsFile}
 use Rattle.pg_text.specs.Faults.{IsReadAs as IsReadBy}

@@ -1,6 +1,10 @@
 -- A certificate that shows a class has no number that its file may not have.
-use Rattle.std.proofs.Common.{◌≡◌, ℕ, ◌<◌, ◌≤◌, true, List, [], ◌∷◌, length, Option, Some, None, ap, arith}
-use Rattle.pg_families.proofs.Common.{All, All-weaker, Side, Position, edge_count, marks_at, AreDueClaims, ArePartsBelow, HavePartsBelow, IsBodyAt, IsSpanValid, SpanBody, SpanCert, SpanClaim, SpanGame, SpanClass, IsSmallBody, IsWithinRanges}
+use Rattle.std.proofs.Common.{◌≡◌, ℕ, ◌<◌, ◌≤◌, true, List, [], ◌∷◌, length, Option, Some, None, ap}
+use Rattle.std.proofs.Common.{arith}
+use Rattle.pg_families.proofs.Common.{All, All-weaker, Side, Position, edge_count, marks_at}
+use Rattle.pg_families.proofs.Common.{AreDueClaims, ArePartsBelow, HavePartsBelow, IsBodyAt}
+use Rattle.pg_families.proofs.Common.{IsSpanValid, SpanBody, SpanCert, SpanClaim, SpanGame}
+use Rattle.pg_families.proofs.Common.{SpanClass, IsSmallBody, IsWithinRanges}
 use Rattle.std.specs.FinSet.{FinSet}
 use Rattle.std.specs.Ordering.{nat_cmp}
 use Rattle.std.specs.Prelude.{IfSome, get_or}

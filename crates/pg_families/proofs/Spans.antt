@@ -1,9 +1,19 @@
 -- Checks, plays and classes of connectivity games.
-use Rattle.std.proofs.Common.{◌≡◌, ◌∙◌, ℕ, [], ◌∷◌, List, Option, Some, None, Result, Ok, Err, option_map, refl, ap, subst, inl}
+use Rattle.std.proofs.Common.{◌≡◌, ◌∙◌, ℕ, [], ◌∷◌, List, Option, Some, None, Result, Ok, Err}
+use Rattle.std.proofs.Common.{option_map, refl, ap, subst, inl}
 use Rattle.std.specs.Prelude.{IfOk}
-use Rattle.pg_families.proofs.Common.{Side, ConsoleTold, Bytes, FilesTold, Illegal, Position, SpanPlay, MakesSpanMove, TakesSpanReply, AnswersInSpan, MovesInSpan, chosen_span_claim, span_start, IsFirstFlaw, IsSpanValid, SpanBody, SpanCert, SpanClaim, SpanFlaw, SpanGame, SpanClass, printed_span, span_entry, RejectedSpan, Answers, Contender, MakesMove, Moves, TakesReply, at, Does, Performs, IsPlay, Delivers, Halt, Refused, follows_more}
+use Rattle.pg_families.proofs.Common.{Side, ConsoleTold, Bytes, FilesTold, Illegal, Position}
+use Rattle.pg_families.proofs.Common.{SpanPlay, MakesSpanMove, TakesSpanReply, AnswersInSpan}
+use Rattle.pg_families.proofs.Common.{MovesInSpan, chosen_span_claim, span_start, IsFirstFlaw}
+use Rattle.pg_families.proofs.Common.{IsSpanValid, SpanBody, SpanCert, SpanClaim, SpanFlaw}
+use Rattle.pg_families.proofs.Common.{SpanGame, SpanClass, printed_span, span_entry, RejectedSpan}
+use Rattle.pg_families.proofs.Common.{Answers, Contender, MakesMove, Moves, TakesReply, at, Does}
+use Rattle.pg_families.proofs.Common.{Performs, IsPlay, Delivers, Halt, Refused, follows_more}
 use Rattle.pg_span.specs.Flaw.{flaw_number}
-use Rattle.pg_families.specs.Connectivity.{AcceptsSpans, HasSpanClaim, LacksSpanClaim, PlaysSpan, RefusesSpanCheck, RefusesSpanPlay, RejectsSpan, ShowsSpanClass, SolvesSpanGame, span_class_text, span_contender, span_pair, span_player}
+use Rattle.pg_families.specs.Connectivity.{AcceptsSpans, HasSpanClaim, LacksSpanClaim, PlaysSpan}
+use Rattle.pg_families.specs.Connectivity.{RefusesSpanCheck, RefusesSpanPlay, RejectsSpan}
+use Rattle.pg_families.specs.Connectivity.{ShowsSpanClass, SolvesSpanGame, span_class_text}
+use Rattle.pg_families.specs.Connectivity.{span_contender, span_pair, span_player}
 use Rattle.pg_families.proofs.Judging.{played_valid, refused_here}
 
 -- ---- what stands against a certificate

@@ -1,6 +1,15 @@
 -- What the commands of connectivity games read, store and say.
 use Rattle.std.specs.Prelude.{◌≡◌, ℕ, [], ◌∷◌, List, map, Option, Some, None, Result, Ok, Err}
-use Rattle.pg_families.specs.Prelude.{Win, MakerBreaker, Side, Bytes, Holding, Entry, span_class, span_rules_of, SpanPlay, chosen_span_claim, span_start, AreDueClaims, named, IsFirstFlaw, IsSpanValid, SpanCert, SpanClaim, SpanFlaw, SpanGame, SpanClass, Maker, Breaker, First, SpanEntry, span_game, span_cert, IsWithinRanges, printed_span, span_entry, accepted_text, class_breaker_text, class_first_mover_text, class_maker_text, Refusal, RejectedSpan, Contender, Done, End, Opens, OpensTwo, IsLackingOne, IsLackingTwo, both, certificate_fault, game_fault, held_as, or_halt, Delivers, Halt}
+use Rattle.pg_families.specs.Prelude.{Win, MakerBreaker, Side, Bytes, Holding, Entry, span_class}
+use Rattle.pg_families.specs.Prelude.{span_rules_of, SpanPlay, chosen_span_claim, span_start}
+use Rattle.pg_families.specs.Prelude.{AreDueClaims, named, IsFirstFlaw, IsSpanValid, SpanCert}
+use Rattle.pg_families.specs.Prelude.{SpanClaim, SpanFlaw, SpanGame, SpanClass, Maker, Breaker}
+use Rattle.pg_families.specs.Prelude.{First, SpanEntry, span_game, span_cert, IsWithinRanges}
+use Rattle.pg_families.specs.Prelude.{printed_span, span_entry, accepted_text, class_breaker_text}
+use Rattle.pg_families.specs.Prelude.{class_first_mover_text, class_maker_text, Refusal}
+use Rattle.pg_families.specs.Prelude.{RejectedSpan, Contender, Done, End, Opens, OpensTwo}
+use Rattle.pg_families.specs.Prelude.{IsLackingOne, IsLackingTwo, both, certificate_fault}
+use Rattle.pg_families.specs.Prelude.{game_fault, held_as, or_halt, Delivers, Halt}
 use Rattle.pg_files.specs.Views.{number_of as game_fault_number}
 use Rattle.pg_span.specs.Flaw.{flaw_number}
 use Rattle.pg_family_files.specs.SpanCertViews.{number_of as certificate_fault_number}

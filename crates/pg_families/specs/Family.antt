@@ -1,8 +1,21 @@
 -- What the commands of further families read, store and say, by family and task.
 use Rattle.std.specs.Prelude.{◌≡◌, ℕ, [], ◌∷◌, List, Option, Some, Result, Ok, Err, ⊤}
-use Rattle.pg_families.specs.Prelude.{Contains, Goal, Side, ConsoleTold, Grows, Bytes, Holding, FilesTold, ReadsOnly, Entry, Said, ForcesBy, marks_at, span_rules_of, SpanGame, at_turn, vector_rules, VecGame, span_game, vector_game, span_entry, vector_entry, accepted_text, claim_text, Refusal, DONE, NO_MEANING, FAULTY_GAME, REFUSED, READ_FAILED, WRITE_FAILED, NO_MEMORY, INPUT_ENDED, OUT_OF_REPLIES, Family, Connectivity, Vectors, FamilyTask, Solve, Check, Play, Done, End, IsGameHalt, IsReadHalt, IsPlayHalt, IsPlayEnd, lacking, StoresAt, Halt, Refused}
-use Rattle.pg_families.specs.Connectivity.{AcceptsSpans, AreSpansLacking, IsSpanLacking, PlaysSpan, RefusesSpanCheck, RefusesSpanPlay, SolvesSpan, span_both_held, span_held}
-use Rattle.pg_families.specs.Vectors.{AcceptsVectors, AreVectorsLacking, IsVectorLacking, PlaysVectors, RefusesVectorCheck, RefusesVectorPlay, SolvesVectors, vectors_both_held, vectors_held}
+use Rattle.pg_families.specs.Prelude.{Contains, Goal, Side, ConsoleTold, Grows, Bytes, Holding}
+use Rattle.pg_families.specs.Prelude.{FilesTold, ReadsOnly, Entry, Said, ForcesBy, marks_at}
+use Rattle.pg_families.specs.Prelude.{span_rules_of, SpanGame, at_turn, vector_rules, VecGame}
+use Rattle.pg_families.specs.Prelude.{span_game, vector_game, span_entry, vector_entry}
+use Rattle.pg_families.specs.Prelude.{accepted_text, claim_text, Refusal, DONE, NO_MEANING}
+use Rattle.pg_families.specs.Prelude.{FAULTY_GAME, REFUSED, READ_FAILED, WRITE_FAILED, NO_MEMORY}
+use Rattle.pg_families.specs.Prelude.{INPUT_ENDED, OUT_OF_REPLIES, Family, Connectivity, Vectors}
+use Rattle.pg_families.specs.Prelude.{FamilyTask, Solve, Check, Play, Done, End, IsGameHalt}
+use Rattle.pg_families.specs.Prelude.{IsReadHalt, IsPlayHalt, IsPlayEnd, lacking, StoresAt, Halt}
+use Rattle.pg_families.specs.Prelude.{Refused}
+use Rattle.pg_families.specs.Connectivity.{AcceptsSpans, AreSpansLacking, IsSpanLacking, PlaysSpan}
+use Rattle.pg_families.specs.Connectivity.{RefusesSpanCheck, RefusesSpanPlay, SolvesSpan}
+use Rattle.pg_families.specs.Connectivity.{span_both_held, span_held}
+use Rattle.pg_families.specs.Vectors.{AcceptsVectors, AreVectorsLacking, IsVectorLacking}
+use Rattle.pg_families.specs.Vectors.{PlaysVectors, RefusesVectorCheck, RefusesVectorPlay}
+use Rattle.pg_families.specs.Vectors.{SolvesVectors, vectors_both_held, vectors_held}
 
 -- this stands against the task, where the names of the game and the certificate hold these bytes
 abbrev pub RefusesFamily : Family → FamilyTask → Option Bytes → Option Bytes → Refusal → Type 0

@@ -1,7 +1,8 @@
 -- What checks and plays of a family's games say, whatever the family is: by how a game is said,
 -- which certificates are valid and what stands against the others.
 use Rattle.std.specs.Prelude.{◌≡◌, ◌⊎◌, List, Result, Ok, Err}
-use Rattle.pg_families.specs.Prelude.{Side, Bytes, Entry, Refusal, NoClaim, Contender, End, IsPlay, SaysAll, Halt, Refused}
+use Rattle.pg_families.specs.Prelude.{Side, Bytes, Entry, Refusal, NoClaim, Contender, End, IsPlay}
+use Rattle.pg_families.specs.Prelude.{SaysAll, Halt, Refused}
 
 -- what stands against a check of what was read: a fault of a file, or the certificate is rejected
 abbrev pub RefusesChecked : {G E C : Type 0}

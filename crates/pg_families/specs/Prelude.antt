@@ -32,12 +32,19 @@ pub use Rattle.pg_io.specs.declared.entry.Entry.TheVariants.{Said}
 pub use Rattle.pg_io.specs.declared.stop.Stop.TheVariants.{Memory, Write}
 pub use Rattle.pg_lehman.specs.declared.class.Class.{Class}
 pub use Rattle.pg_lehman.specs.declared.class.Class.TheVariants.{Cut, Short}
-pub use Rattle.pg_messages.specs.Texts.{accepted_text, claim_text, class_breaker_text, class_cut_text, class_first_mover_text, class_maker_text, class_short_text, message_text, reply_text}
+pub use Rattle.pg_messages.specs.Texts.{accepted_text, claim_text, class_breaker_text}
+pub use Rattle.pg_messages.specs.Texts.{class_cut_text, class_first_mover_text, class_maker_text}
+pub use Rattle.pg_messages.specs.Texts.{class_short_text, message_text, reply_text}
 pub use Rattle.pg_messages.specs.declared.refusal.Refusal.{Refusal}
-pub use Rattle.pg_messages.specs.declared.refusal.Refusal.TheVariants.{NoClaim, RejectedSpan, RejectedVectors}
-pub use Rattle.pg_messages.specs.declared.statuses.TheConstants.{DONE, FAULTY_GAME, INPUT_ENDED, NO_MEANING, NO_MEMORY, OUT_OF_REPLIES, READ_FAILED, REFUSED, WRITE_FAILED}
+pub use Rattle.pg_messages.specs.declared.refusal.Refusal.TheVariants.{NoClaim, RejectedSpan}
+pub use Rattle.pg_messages.specs.declared.refusal.Refusal.TheVariants.{RejectedVectors}
+pub use Rattle.pg_messages.specs.declared.statuses.TheConstants.{DONE, FAULTY_GAME, INPUT_ENDED}
+pub use Rattle.pg_messages.specs.declared.statuses.TheConstants.{NO_MEANING, NO_MEMORY}
+pub use Rattle.pg_messages.specs.declared.statuses.TheConstants.{OUT_OF_REPLIES, READ_FAILED}
+pub use Rattle.pg_messages.specs.declared.statuses.TheConstants.{REFUSED, WRITE_FAILED}
 pub use Rattle.pg_span.specs.Game.{marks_at, span_class, span_rules_of}
-pub use Rattle.pg_span.specs.Player.{AnswersInSpan, MakesSpanMove, MovesInSpan, SpanPlay, TakesSpanReply, chosen_span_claim, span_start}
+pub use Rattle.pg_span.specs.Player.{AnswersInSpan, MakesSpanMove, MovesInSpan, SpanPlay}
+pub use Rattle.pg_span.specs.Player.{TakesSpanReply, chosen_span_claim, span_start}
 pub use Rattle.pg_span.specs.Solved.{AreDueClaims, ArePartsBelow, HavePartsBelow, named}
 pub use Rattle.pg_span.specs.Valid.{IsBodyAt, IsFirstFlaw, IsSpanClaimValid, IsSpanValid}
 pub use Rattle.pg_span.specs.declared.cert.SpanBody.{SpanBody}
@@ -49,16 +56,22 @@ pub use Rattle.pg_span.specs.declared.game.SpanGame.{SpanGame}
 pub use Rattle.pg_span.specs.declared.solved.SpanClass.{SpanClass}
 pub use Rattle.pg_span.specs.declared.solved.SpanClass.TheVariants.{Breaker, First, Maker}
 pub use Rattle.pg_talk.specs.Contender.{Answers, Contender, MakesMove, Moves, TakesReply, at}
-pub use Rattle.pg_talk.specs.Done.{Does, Done, End, Failed, Finished, Follows, Performs, Starved, stop_end}
-pub use Rattle.pg_talk.specs.Halts.{BothCauses, HaltCauses, IsGameHalt, IsPlayEnd, IsPlayHalt, IsReadHalt, IsTalkHalt, IsWriteHalt, MuteAtMemory}
+pub use Rattle.pg_talk.specs.Done.{Does, Done, End, Failed, Finished, Follows, Performs, Starved}
+pub use Rattle.pg_talk.specs.Done.{stop_end}
+pub use Rattle.pg_talk.specs.Halts.{BothCauses, HaltCauses, IsGameHalt, IsPlayEnd, IsPlayHalt}
+pub use Rattle.pg_talk.specs.Halts.{IsReadHalt, IsTalkHalt, IsWriteHalt, MuteAtMemory}
 pub use Rattle.pg_talk.specs.Playing.{IsPlay}
-pub use Rattle.pg_talk.specs.Reading.{IsLackingOne, IsLackingTwo, IsReadAs, Opens, OpensTwo, both, certificate_fault, certificate_held, game_fault, held_as, lacking, or_halt}
+pub use Rattle.pg_talk.specs.Reading.{IsLackingOne, IsLackingTwo, IsReadAs, Opens, OpensTwo, both}
+pub use Rattle.pg_talk.specs.Reading.{certificate_fault, certificate_held, game_fault, held_as}
+pub use Rattle.pg_talk.specs.Reading.{lacking, or_halt}
 pub use Rattle.pg_talk.specs.Runs.{QuietsBy, Runs}
 pub use Rattle.pg_talk.specs.Saying.{IsCut, SaysAll, Speaks}
 pub use Rattle.pg_talk.specs.Storing.{Delivers, StoresAt}
 pub use Rattle.pg_talk.specs.declared.halt.Halt.{Halt}
 pub use Rattle.pg_talk.specs.declared.halt.Halt.TheVariants.{Refused, Stopped}
-pub use Rattle.pg_vec_player.specs.Player.{AnswersOnVectors, MakesVecMove, MovesOnVectors, TakesVecReply, VecPlay, chosen_vec_claim, plan_of_claim, vec_start}
+pub use Rattle.pg_vec_player.specs.Player.{AnswersOnVectors, MakesVecMove, MovesOnVectors}
+pub use Rattle.pg_vec_player.specs.Player.{TakesVecReply, VecPlay, chosen_vec_claim, plan_of_claim}
+pub use Rattle.pg_vec_player.specs.Player.{vec_start}
 pub use Rattle.pg_words.specs.declared.family.Family.{Family}
 pub use Rattle.pg_words.specs.declared.family.Family.TheVariants.{Connectivity, Vectors}
 pub use Rattle.pg_words.specs.declared.family.FamilyTask.{FamilyTask}

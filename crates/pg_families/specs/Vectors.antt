@@ -1,6 +1,16 @@
 -- What the commands of games on vectors read and say.
-use Rattle.std.specs.Prelude.{◌≡◌, ℕ, [], ◌∷◌, List, length, map, Option, Some, None, Result, Ok, Err}
-use Rattle.pg_families.specs.Prelude.{Win, Switching, Side, X, Y, Bytes, Holding, Entry, IsWithinLimits, printed_certificate, Cert, Claim, IsFirstVecFault, IsVecValid, flaw_number, Class, Short, Cut, at_turn, vector_class, vector_rules, VecPlay, chosen_vec_claim, vec_start, VecFlaw, VecGame, VectorEntry, vector_game, vector_entry, accepted_text, class_cut_text, class_first_mover_text, class_short_text, Refusal, RejectedVectors, Contender, Done, End, Opens, OpensTwo, IsLackingOne, IsLackingTwo, both, certificate_held, game_fault, held_as, or_halt, Delivers, Halt}
+use Rattle.std.specs.Prelude.{◌≡◌, ℕ, [], ◌∷◌, List, length, map, Option, Some, None, Result, Ok}
+use Rattle.std.specs.Prelude.{Err}
+use Rattle.pg_families.specs.Prelude.{Win, Switching, Side, X, Y, Bytes, Holding, Entry}
+use Rattle.pg_families.specs.Prelude.{IsWithinLimits, printed_certificate, Cert, Claim}
+use Rattle.pg_families.specs.Prelude.{IsFirstVecFault, IsVecValid, flaw_number, Class, Short, Cut}
+use Rattle.pg_families.specs.Prelude.{at_turn, vector_class, vector_rules, VecPlay}
+use Rattle.pg_families.specs.Prelude.{chosen_vec_claim, vec_start, VecFlaw, VecGame, VectorEntry}
+use Rattle.pg_families.specs.Prelude.{vector_game, vector_entry, accepted_text, class_cut_text}
+use Rattle.pg_families.specs.Prelude.{class_first_mover_text, class_short_text, Refusal}
+use Rattle.pg_families.specs.Prelude.{RejectedVectors, Contender, Done, End, Opens, OpensTwo}
+use Rattle.pg_families.specs.Prelude.{IsLackingOne, IsLackingTwo, both, certificate_held}
+use Rattle.pg_families.specs.Prelude.{game_fault, held_as, or_halt, Delivers, Halt}
 use Rattle.pg_files.specs.Views.{number_of as game_fault_number}
 use Rattle.pg_lehman.specs.ClassClaims.{class_claims}
 use Rattle.pg_lehman.specs.Sets.{named}

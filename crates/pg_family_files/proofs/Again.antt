@@ -1,16 +1,23 @@
 -- What is printed of a game is read again as that game.
-use Rattle.std.proofs.Common.{◌≡◌, ℕ, ◌^◌, ◌<◌, ◌≤◌, lit≤, List, [], ◌∷◌, ◌++◌, length, map, arith, refl, sym, ap, ap₂, ◌∙◌, Ok}
+use Rattle.std.proofs.Common.{◌≡◌, ℕ, ◌^◌, ◌<◌, ◌≤◌, lit≤, List, [], ◌∷◌, ◌++◌, length, map, arith}
+use Rattle.std.proofs.Common.{refl, sym, ap, ap₂, ◌∙◌, Ok}
 use Rattle.std.specs.Prelude.{nat_lt, true}
-use Rattle.pg_family_files.proofs.Common.{list_all, FinSet, nat_cmp, AreBelow, members, points_below-length, Side, side_word, Bytes, Graph, marked, edge_words, last_lines, below-members, smaller, one_small, two_small, SpanGame, VecGame}
+use Rattle.pg_family_files.proofs.Common.{list_all, FinSet, nat_cmp, AreBelow, members}
+use Rattle.pg_family_files.proofs.Common.{points_below-length, Side, side_word, Bytes, Graph}
+use Rattle.pg_family_files.proofs.Common.{marked, edge_words, last_lines, below-members, smaller}
+use Rattle.pg_family_files.proofs.Common.{one_small, two_small, SpanGame, VecGame}
 use Rattle.pg_files.specs.declared.key.Key.TheVariants as game_keys
 use Rattle.pg_family_files.specs.FamilyFile.{made, span_of, span_game, vectors_of, vector_game}
-use Rattle.pg_family_files.specs.Print.{header, numbered, worded, signs_of, vector_words, span_lines, vector_lines, printed_span, printed_vectors}
+use Rattle.pg_family_files.specs.Print.{header, numbered, worded, signs_of, vector_words}
+use Rattle.pg_family_files.specs.Print.{span_lines, vector_lines, printed_span, printed_vectors}
 use Rattle.pg_family_files.specs.Views.{span_entry, vector_entry}
 use Rattle.pg_family_files.specs.declared.family.Family.TheVariants as families
 use Rattle.pg_family_files.specs.declared.family.Key.TheVariants as keys
 use Rattle.pg_family_files.proofs.SignsAgain.{signs_word, signs_length}
-use Rattle.pg_family_files.proofs.PrintSize.{AreLinesIn, IsShort, both_in, each_in, header_in, key_short, numbers_in, word_in, turn_in, marks_in}
-use Rattle.pg_family_files.proofs.RoundTrip.{of_edges, of_vectors, rank_within, span_goes, vectors_go, file_again}
+use Rattle.pg_family_files.proofs.PrintSize.{AreLinesIn, IsShort, both_in, each_in, header_in}
+use Rattle.pg_family_files.proofs.PrintSize.{key_short, numbers_in, word_in, turn_in, marks_in}
+use Rattle.pg_family_files.proofs.RoundTrip.{of_edges, of_vectors, rank_within, span_goes}
+use Rattle.pg_family_files.proofs.RoundTrip.{vectors_go, file_again}
 
 -- ---- sizes
 

@@ -1,7 +1,10 @@
 -- Vectors and their signs.
-use Rattle.std.proofs.Common.{◌≡◌, ℕ, zero, suc, ◌+◌, ◌*◌, ◌-◌, ◌^◌, ◌<◌, ◌≤◌, Bool, true, false, cond, ◌&&◌, inl, inr, [], ◌∷◌, length, drop, get_or, add-one, drop-cons, arith, refl, ap, subst, lit<, lit≤, ◌∙◌}
+use Rattle.std.proofs.Common.{◌≡◌, ℕ, zero, suc, ◌+◌, ◌*◌, ◌-◌, ◌^◌, ◌<◌, ◌≤◌, Bool, true, false}
+use Rattle.std.proofs.Common.{cond, ◌&&◌, inl, inr, [], ◌∷◌, length, drop, get_or, add-one}
+use Rattle.std.proofs.Common.{drop-cons, arith, refl, ap, subst, lit<, lit≤, ◌∙◌}
 use Rattle.std.specs.Prelude.{◌==◌, if◌then◌else◌, Some, None, is_none, unwrap_or}
-use Rattle.pg_family_files.proofs.Common.{list_all, pow-succ', pow-le-pow_right, cases_Bool, and_parts, eqb-true, nat_tests, Bytes}
+use Rattle.pg_family_files.proofs.Common.{list_all, pow-succ', pow-le-pow_right, cases_Bool}
+use Rattle.pg_family_files.proofs.Common.{and_parts, eqb-true, nat_tests, Bytes}
 use Rattle.pg_family_files.specs.FamilyFile.{is_sign, signs_value, vector_of}
 
 pub and_first : (a b : Bool) → a ≡ false → (a && b) ≡ false

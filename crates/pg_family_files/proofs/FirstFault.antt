@@ -1,12 +1,18 @@
 -- The first fault of a file, and the least of its line.
-use Rattle.std.proofs.Common.{◌≡◌, ℕ, ◌<◌, Bool, true, false, cond, not, ◌||◌, ◌⊎◌, inl, inr, List, [], ◌∷◌, length, Result, Ok, Err, Option, Some, None, refl, sym, ap, ◌∙◌, arith}
+use Rattle.std.proofs.Common.{◌≡◌, ℕ, ◌<◌, Bool, true, false, cond, not, ◌||◌, ◌⊎◌, inl, inr, List}
+use Rattle.std.proofs.Common.{[], ◌∷◌, length, Result, Ok, Err, Option, Some, None, refl, sym, ap}
+use Rattle.std.proofs.Common.{◌∙◌, arith}
 use Rattle.std.specs.Prelude.{nat_lt, ◌==◌, is_none}
-use Rattle.pg_family_files.proofs.Common.{list_all, ltb-true, Side, Bytes, lines, words, reading, least, IsLeast, is_least, unless_err, first_fault, Fault}
+use Rattle.pg_family_files.proofs.Common.{list_all, ltb-true, Side, Bytes, lines, words, reading}
+use Rattle.pg_family_files.proofs.Common.{least, IsLeast, is_least, unless_err, first_fault, Fault}
 use Rattle.pg_files.specs.declared.fault.Fault.TheVariants as faults
 use Rattle.pg_files.specs.GameFile.{first, rest, is_printable, begins_comment}
 use Rattle.pg_family_files.specs.Family.{key_of}
-use Rattle.pg_family_files.specs.FamilyFile.{Draft, Whole, nothing, after, significant, keyed, keyed_fault, named, said, is_header, whole, ended, turned, made}
-use Rattle.pg_family_files.specs.Laws.{named_faults, words_faults, line_faults, IsFirstFault, Lacks, IsWholeFault}
+use Rattle.pg_family_files.specs.FamilyFile.{Draft, Whole, nothing, after, significant, keyed}
+use Rattle.pg_family_files.specs.FamilyFile.{keyed_fault, named, said, is_header, whole, ended}
+use Rattle.pg_family_files.specs.FamilyFile.{turned, made}
+use Rattle.pg_family_files.specs.Laws.{named_faults, words_faults, line_faults, IsFirstFault, Lacks}
+use Rattle.pg_family_files.specs.Laws.{IsWholeFault}
 use Rattle.pg_family_files.specs.declared.family.Family.{Family}
 use Rattle.pg_family_files.specs.declared.family.Key.{Key}
 

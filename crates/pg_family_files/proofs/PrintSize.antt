@@ -1,7 +1,11 @@
 -- Printed lines are of words, and not too long.
-use Rattle.std.proofs.Common.{◌≡◌, ℕ, suc, ◌+◌, ◌*◌, ◌≤◌, lit<, lit≤, true, List, [], ◌∷◌, ◌++◌, length, map, refl, ap, ◌∙◌, arith}
+use Rattle.std.proofs.Common.{◌≡◌, ℕ, suc, ◌+◌, ◌*◌, ◌≤◌, lit<, lit≤, true, List, [], ◌∷◌, ◌++◌}
+use Rattle.std.proofs.Common.{length, map, refl, ap, ◌∙◌, arith}
 use Rattle.std.specs.Prelude.{nat_lt}
-use Rattle.pg_family_files.proofs.Common.{decimal, list_all, flat_map, All, AllByRecursion, ltb-true, and_parts, length-append, All-tail, flat_map-append, side_word, Side, Bytes, spelled, is_word, decimals_are_words, AreSmall, number_words, marked}
+use Rattle.pg_family_files.proofs.Common.{decimal, list_all, flat_map, All, AllByRecursion}
+use Rattle.pg_family_files.proofs.Common.{ltb-true, and_parts, length-append, All-tail}
+use Rattle.pg_family_files.proofs.Common.{flat_map-append, side_word, Side, Bytes, spelled, is_word}
+use Rattle.pg_family_files.proofs.Common.{decimals_are_words, AreSmall, number_words, marked}
 use Rattle.std.proofs.lemmas.Fmt.{length-decimal-le}
 use Rattle.pg_base.specs.declared.side.Side.TheVariants as sides
 use Rattle.pg_files.specs.Key.{key_name as game_key_name}

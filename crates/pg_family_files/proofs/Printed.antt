@@ -1,5 +1,6 @@
 -- The texts of games, in the pieces in which they are written.
-use Rattle.std.proofs.Common.{◌≡◌, ℕ, suc, ◌+◌, ◌-◌, ◌<◌, ◌≤◌, ◌/◌, ◌%◌, List, [], ◌∷◌, ◌++◌, refl, sym, ap, arith, append_assoc, ◌∙◌}
+use Rattle.std.proofs.Common.{◌≡◌, ℕ, suc, ◌+◌, ◌-◌, ◌<◌, ◌≤◌, ◌/◌, ◌%◌, List, [], ◌∷◌, ◌++◌, refl}
+use Rattle.std.proofs.Common.{sym, ap, arith, append_assoc, ◌∙◌}
 use Rattle.pg_family_files.proofs.Common.{flat_map, flat_map-append, append-nil, Bytes, spelled}
 use Rattle.pg_family_files.specs.Print.{signs_of}
 

@@ -1,11 +1,24 @@
 -- What is printed is read again.
-use Rattle.std.proofs.Common.{◌≡◌, ℕ, ◌+◌, ◌^◌, ◌<◌, ◌≤◌, lit<, lit≤, true, false, ◌&&◌, ◌||◌, List, [], ◌∷◌, ◌++◌, length, map, arith, refl, sym, ap, subst, append_assoc, ◌∙◌, Ok}
+use Rattle.std.proofs.Common.{◌≡◌, ℕ, ◌+◌, ◌^◌, ◌<◌, ◌≤◌, lit<, lit≤, true, false, ◌&&◌, ◌||◌, List}
+use Rattle.std.proofs.Common.{[], ◌∷◌, ◌++◌, length, map, arith, refl, sym, ap, subst, append_assoc}
+use Rattle.std.proofs.Common.{◌∙◌, Ok}
 use Rattle.std.specs.Prelude.{◌==◌, nat_lt, nat_le, Some}
-use Rattle.pg_family_files.proofs.Common.{decimal, list_all, flat_map, All, FinSet, empty, nat_cmp, lt-ltb, and_right, nat_tests, append-nil, length-append, map-append, All-tail, AreBelow, ShareNone, members, points_below-ascend, from_list-points_below, side_word, side_of, Side, Bytes, spaced, lines, words, spelled, reading, set_of, repeats, begins_comment, marked, edge_words, last_lines, is_word, words_again, numbers_decimals, spaced_printable, decimals_are_words, lines_spelled, repeats_none, below-members, members-apart, AreSmall, smaller, one_small, two_small, inside, side_is_word}
+use Rattle.pg_family_files.proofs.Common.{decimal, list_all, flat_map, All, FinSet, empty, nat_cmp}
+use Rattle.pg_family_files.proofs.Common.{lt-ltb, and_right, nat_tests, append-nil, length-append}
+use Rattle.pg_family_files.proofs.Common.{map-append, All-tail, AreBelow, ShareNone, members}
+use Rattle.pg_family_files.proofs.Common.{points_below-ascend, from_list-points_below, side_word}
+use Rattle.pg_family_files.proofs.Common.{side_of, Side, Bytes, spaced, lines, words, spelled}
+use Rattle.pg_family_files.proofs.Common.{reading, set_of, repeats, begins_comment, marked}
+use Rattle.pg_family_files.proofs.Common.{edge_words, last_lines, is_word, words_again}
+use Rattle.pg_family_files.proofs.Common.{numbers_decimals, spaced_printable, decimals_are_words}
+use Rattle.pg_family_files.proofs.Common.{lines_spelled, repeats_none, below-members, members-apart}
+use Rattle.pg_family_files.proofs.Common.{AreSmall, smaller, one_small, two_small, inside}
+use Rattle.pg_family_files.proofs.Common.{side_is_word}
 use Rattle.pg_base.specs.declared.side.Side.TheVariants as sides
 use Rattle.pg_files.specs.declared.key.Key.TheVariants as game_keys
 use Rattle.pg_family_files.specs.Family.{has_key, key_name, key_of, rank_of, needed_rank, head_rank}
-use Rattle.pg_family_files.specs.FamilyFile.{Draft, nothing, points_so_far, is_out_of_place, keyed, significant, after, whole}
+use Rattle.pg_family_files.specs.FamilyFile.{Draft, nothing, points_so_far, is_out_of_place, keyed}
+use Rattle.pg_family_files.specs.FamilyFile.{significant, after, whole}
 use Rattle.pg_family_files.specs.Print.{header, numbered, worded, signs_of, vector_words}
 use Rattle.pg_family_files.specs.declared.family.Family.{Family}
 use Rattle.pg_family_files.specs.declared.family.Family.TheVariants as families

@@ -1,5 +1,6 @@
 -- The signs of a vector are read again as that vector.
-use Rattle.std.proofs.Common.{◌≡◌, ℕ, zero, suc, ◌+◌, ◌*◌, ◌/◌, ◌%◌, ◌^◌, ◌<◌, ◌≤◌, true, false, cond, ◌&&◌, length, arith, refl, ap, ap₂}
+use Rattle.std.proofs.Common.{◌≡◌, ℕ, zero, suc, ◌+◌, ◌*◌, ◌/◌, ◌%◌, ◌^◌, ◌<◌, ◌≤◌, true, false}
+use Rattle.std.proofs.Common.{cond, ◌&&◌, length, arith, refl, ap, ap₂}
 use Rattle.std.specs.Prelude.{◌==◌, nat_lt, Some}
 use Rattle.pg_family_files.proofs.Common.{list_all, pow-succ', eq-eqb, nat_tests, is_word}
 use Rattle.pg_family_files.specs.FamilyFile.{is_sign, signs_value, vector_of}

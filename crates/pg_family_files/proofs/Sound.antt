@@ -1,12 +1,27 @@
 -- What is read is within the limits.
-use Rattle.std.proofs.Common.{◌≡◌, ℕ, ◌+◌, ◌^◌, ◌<◌, ◌≤◌, lit<, lit≤, Bool, true, false, cond, ◌&&◌, ◌||◌, inl, inr, List, [], ◌∷◌, ◌++◌, length, arith, refl, sym, ap, subst, ◌∙◌, Option, Some, None, Result, Ok, Err}
+use Rattle.std.proofs.Common.{◌≡◌, ℕ, ◌+◌, ◌^◌, ◌<◌, ◌≤◌, lit<, lit≤, Bool, true, false, cond, ◌&&◌}
+use Rattle.std.proofs.Common.{◌||◌, inl, inr, List, [], ◌∷◌, ◌++◌, length, arith, refl, sym, ap}
+use Rattle.std.proofs.Common.{subst, ◌∙◌, Option, Some, None, Result, Ok, Err}
 use Rattle.std.specs.Prelude.{◌==◌, nat_lt, nat_le, not, is_none, find}
-use Rattle.pg_family_files.proofs.Common.{list_all, All, FinSet, contains, empty, contains-empty, nat_cmp, bytes_eq, cases_lt, ltb-false, and_parts, or_parts, nat_tests, length-append, All-push, Side, Bytes, words, lines, numbers, reading, go_on, Fault, first, rest, numbers_of, first_number, second_number, is_printable, begins_comment, in_set_of, repeats_apart, AreSpanParts, AreVectorParts}
+use Rattle.pg_family_files.proofs.Common.{list_all, All, FinSet, contains, empty, contains-empty}
+use Rattle.pg_family_files.proofs.Common.{nat_cmp, bytes_eq, cases_lt, ltb-false, and_parts}
+use Rattle.pg_family_files.proofs.Common.{or_parts, nat_tests, length-append, All-push, Side, Bytes}
+use Rattle.pg_family_files.proofs.Common.{words, lines, numbers, reading, go_on, Fault, first, rest}
+use Rattle.pg_family_files.proofs.Common.{numbers_of, first_number, second_number, is_printable}
+use Rattle.pg_family_files.proofs.Common.{begins_comment, in_set_of, repeats_apart, AreSpanParts}
+use Rattle.pg_family_files.proofs.Common.{AreVectorParts}
 use Rattle.std.proofs.lemmas.Nat.{pow_pos}
 use Rattle.pg_files.specs.declared.fault.Fault.TheVariants as faults
-use Rattle.pg_files.proofs.Sound.{AreEnds, AreMarks, none_applies, not_false, outside_not, none_below, no_marks, set_below, no_ends, more_ends, two_below, unless_ok, done, ok_is, chosen}
-use Rattle.pg_family_files.specs.Family.{has_key, key_name, key_of, all_keys, rank_of, needed_rank, head_rank, is_connectivity, is_vectors}
-use Rattle.pg_family_files.specs.FamilyFile.{Draft, Whole, nothing, points_so_far, is_out_of_place, keyed_faults, keyed_fault, said, first_vector, keyed, named, is_header, significant, after, turned, ended, whole, made, SpanEntry, span_of, span_game, VectorEntry, vectors_of, vector_game}
+use Rattle.pg_files.proofs.Sound.{AreEnds, AreMarks, none_applies, not_false, outside_not}
+use Rattle.pg_files.proofs.Sound.{none_below, no_marks, set_below, no_ends, more_ends, two_below}
+use Rattle.pg_files.proofs.Sound.{unless_ok, done, ok_is, chosen}
+use Rattle.pg_family_files.specs.Family.{has_key, key_name, key_of, all_keys, rank_of, needed_rank}
+use Rattle.pg_family_files.specs.Family.{head_rank, is_connectivity, is_vectors}
+use Rattle.pg_family_files.specs.FamilyFile.{Draft, Whole, nothing, points_so_far, is_out_of_place}
+use Rattle.pg_family_files.specs.FamilyFile.{keyed_faults, keyed_fault, said, first_vector, keyed}
+use Rattle.pg_family_files.specs.FamilyFile.{named, is_header, significant, after, turned, ended}
+use Rattle.pg_family_files.specs.FamilyFile.{whole, made, SpanEntry, span_of, span_game}
+use Rattle.pg_family_files.specs.FamilyFile.{VectorEntry, vectors_of, vector_game}
 use Rattle.pg_family_files.specs.declared.family.Family.{Family}
 use Rattle.pg_family_files.specs.declared.family.Family.TheVariants as families
 use Rattle.pg_family_files.specs.declared.family.Key.{Key}

@@ -1,15 +1,30 @@
 -- A printed certificate is read again as the same certificate.
-use Rattle.std.proofs.Common.{◌≡◌, ℕ, suc, ◌+◌, ◌<◌, ◌≤◌, lit<, true, false, inl, List, [], ◌∷◌, ◌++◌, length, map, arith, refl, sym, ap, subst, ◌∙◌, append_assoc, Option, Some, None, Ok}
+use Rattle.std.proofs.Common.{◌≡◌, ℕ, suc, ◌+◌, ◌<◌, ◌≤◌, lit<, true, false, inl, List, [], ◌∷◌}
+use Rattle.std.proofs.Common.{◌++◌, length, map, arith, refl, sym, ap, subst, ◌∙◌, append_assoc}
+use Rattle.std.proofs.Common.{Option, Some, None, Ok}
 use Rattle.std.specs.Prelude.{◌==◌, nat_le, codes, slice_index, option_map, IfSome}
-use Rattle.pg_family_files.proofs.Common.{FinSet, decimal, flat_map, list_any, AllByRecursion, nat_cmp, nat_tests, append-nil, length-append, recursion_from_All, members, side_word, Side, points_below-each, points_below-small, points_below-ascend, from_list-points_below, each_of, reading, Bytes, ascend_from, lines, spaced, spelled, IsDigit, all_append, all_map, decimal_digits, decimal_not, number_decimal, reads_on, is_over, set_words, is_slash, has_one_slash, before_slash, after_slash, SpanBody, SpanCert, SpanClaim}
+use Rattle.pg_family_files.proofs.Common.{FinSet, decimal, flat_map, list_any, AllByRecursion}
+use Rattle.pg_family_files.proofs.Common.{nat_cmp, nat_tests, append-nil, length-append}
+use Rattle.pg_family_files.proofs.Common.{recursion_from_All, members, side_word, Side}
+use Rattle.pg_family_files.proofs.Common.{points_below-each, points_below-small}
+use Rattle.pg_family_files.proofs.Common.{points_below-ascend, from_list-points_below, each_of}
+use Rattle.pg_family_files.proofs.Common.{reading, Bytes, ascend_from, lines, spaced, spelled}
+use Rattle.pg_family_files.proofs.Common.{IsDigit, all_append, all_map, decimal_digits, decimal_not}
+use Rattle.pg_family_files.proofs.Common.{number_decimal, reads_on, is_over, set_words, is_slash}
+use Rattle.pg_family_files.proofs.Common.{has_one_slash, before_slash, after_slash, SpanBody}
+use Rattle.pg_family_files.proofs.Common.{SpanCert, SpanClaim}
 use Rattle.std.specs.List.Sorted.{IsStrictlyIncreasing}
 use Rattle.pg_base.specs.declared.side.Side.TheVariants as sides
 use Rattle.pg_text.proofs.FirstLine.{lines_feed}
-use Rattle.pg_text.proofs.PlainWords.{IsWord, decimal_is_word, spaced_quiet, words_spaced, quiet_lacks_feed}
+use Rattle.pg_text.proofs.PlainWords.{IsWord, decimal_is_word, spaced_quiet, words_spaced}
+use Rattle.pg_text.proofs.PlainWords.{quiet_lacks_feed}
 use Rattle.pg_span.specs.declared.cert.SpanBody.TheVariants as bodies
 use Rattle.pg_family_files.specs.SpanCertFile.{Draft, nothing, after, said, span_cert}
-use Rattle.pg_family_files.specs.SpanCertLine.{body_from, body_of, cut_first, edges_of, first_edge, head_of, is_first, number_in, trees_of}
-use Rattle.pg_family_files.specs.SpanCertPrint.{AreSmall, IsSmallBody, IsWithinRanges, body_words, claim_lines, claim_words, first_words, header, printed_lines, printed_span}
+use Rattle.pg_family_files.specs.SpanCertLine.{body_from, body_of, cut_first, edges_of, first_edge}
+use Rattle.pg_family_files.specs.SpanCertLine.{head_of, is_first, number_in, trees_of}
+use Rattle.pg_family_files.specs.SpanCertPrint.{AreSmall, IsSmallBody, IsWithinRanges, body_words}
+use Rattle.pg_family_files.specs.SpanCertPrint.{claim_lines, claim_words, first_words, header}
+use Rattle.pg_family_files.specs.SpanCertPrint.{printed_lines, printed_span}
 use Rattle.pg_family_files.specs.declared.cert_draft.Due.TheVariants as due
 use Rattle.pg_family_files.specs.declared.cert_line.Head.{Head}
 use Rattle.pg_family_files.proofs.SpanCertReading.{fits_file, said_is, ends_well}

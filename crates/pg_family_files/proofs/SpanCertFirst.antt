@@ -1,18 +1,27 @@
 -- The fault that is told is the first.
-use Rattle.std.proofs.Common.{◌≡◌, ℕ, ◌+◌, Bool, true, false, cond, ◌⊎◌, inl, inr, List, [], ◌∷◌, ◌++◌, length, refl, sym, ap, ◌∙◌, Option, Some, None, Result, Ok, Err, arith}
+use Rattle.std.proofs.Common.{◌≡◌, ℕ, ◌+◌, Bool, true, false, cond, ◌⊎◌, inl, inr, List, [], ◌∷◌}
+use Rattle.std.proofs.Common.{◌++◌, length, refl, sym, ap, ◌∙◌, Option, Some, None, Result, Ok, Err}
+use Rattle.std.proofs.Common.{arith}
 use Rattle.std.specs.Prelude.{nat_le, nat_lt, not, is_none, is_err, codes}
-use Rattle.pg_family_files.proofs.Common.{FinSet, nat_cmp, bytes_eq, ltb-true, and_then, each_of, least, onto, reading, Bytes, ascend_from, lines, number, parts, first_fault, is_least, has_one_slash, before_slash, after_slash, SpanBody}
+use Rattle.pg_family_files.proofs.Common.{FinSet, nat_cmp, bytes_eq, ltb-true, and_then, each_of}
+use Rattle.pg_family_files.proofs.Common.{least, onto, reading, Bytes, ascend_from, lines, number}
+use Rattle.pg_family_files.proofs.Common.{parts, first_fault, is_least, has_one_slash, before_slash}
+use Rattle.pg_family_files.proofs.Common.{after_slash, SpanBody}
 use Rattle.pg_span.specs.declared.cert.SpanBody.TheVariants as bodies
 use Rattle.pg_span.specs.declared.cert.SpanClaim.{SpanClaim}
-use Rattle.pg_family_files.specs.SpanCertFile.{Draft, nothing, claimed, line_due, after, end_fault, ended, said, span_cert}
+use Rattle.pg_family_files.specs.SpanCertFile.{Draft, nothing, claimed, line_due, after, end_fault}
+use Rattle.pg_family_files.specs.SpanCertFile.{ended, said, span_cert}
 use Rattle.pg_family_files.specs.SpanCertFaults.{has_form, line_faults, IsFirstFault}
-use Rattle.pg_family_files.specs.SpanCertLine.{TreeWords, ascending, body_from, body_of, cut_first, edges_of, first_edge, head_of, number_in, parts_of, small, trees_of}
+use Rattle.pg_family_files.specs.SpanCertLine.{TreeWords, ascending, body_from, body_of, cut_first}
+use Rattle.pg_family_files.specs.SpanCertLine.{edges_of, first_edge, head_of, number_in, parts_of}
+use Rattle.pg_family_files.specs.SpanCertLine.{small, trees_of}
 use Rattle.pg_family_files.specs.declared.cert_draft.Due.{Due}
 use Rattle.pg_family_files.specs.declared.cert_draft.Due.TheVariants as due
 use Rattle.pg_family_files.specs.declared.cert_fault.Fault.{Fault}
 use Rattle.pg_family_files.specs.declared.cert_fault.Fault.TheVariants as faults
 use Rattle.pg_family_files.specs.declared.cert_line.Head.{Head}
-use Rattle.pg_family_files.proofs.SpanCertWithin.{chosen, claim_of, done, some_done, body_done, draft_done, of_second, of_first, of_sets}
+use Rattle.pg_family_files.proofs.SpanCertWithin.{chosen, claim_of, done, some_done, body_done}
+use Rattle.pg_family_files.proofs.SpanCertWithin.{draft_done, of_second, of_first, of_sets}
 
 -- ---- what an answer with a fault was made of
 

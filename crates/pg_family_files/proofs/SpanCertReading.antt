@@ -1,10 +1,13 @@
 -- What the lines say is what the file says.
-use Rattle.std.proofs.Common.{◌≡◌, ℕ, ◌+◌, ◌<◌, ◌≤◌, false, List, length, Result, Ok, Err, refl, arith}
+use Rattle.std.proofs.Common.{◌≡◌, ℕ, ◌+◌, ◌<◌, ◌≤◌, false, List, length, Result, Ok, Err, refl}
+use Rattle.std.proofs.Common.{arith}
 use Rattle.std.specs.Prelude.{◌==◌, nat_lt}
-use Rattle.pg_family_files.proofs.Common.{nat_tests, and_then, reading, Bytes, lines, FileError, SpanClaim}
+use Rattle.pg_family_files.proofs.Common.{nat_tests, and_then, reading, Bytes, lines, FileError}
+use Rattle.pg_family_files.proofs.Common.{SpanClaim}
 use Rattle.pg_text.specs.Faults.{IsReadAs as IsReadBy}
 use Rattle.pg_text.specs.declared.error.FileError.TheVariants.{Bad, Memory}
-use Rattle.pg_family_files.specs.SpanCertFile.{Draft, nothing, after, end_fault, ended, said, span_cert}
+use Rattle.pg_family_files.specs.SpanCertFile.{Draft, nothing, after, end_fault, ended, said}
+use Rattle.pg_family_files.specs.SpanCertFile.{span_cert}
 use Rattle.pg_family_files.specs.SpanCertViews.{number_of}
 use Rattle.pg_family_files.specs.declared.cert_draft.Due.TheVariants as due
 use Rattle.pg_family_files.specs.declared.cert_fault.Fault.{Fault}

@@ -1,12 +1,23 @@
 -- A certificate that is read is within the ranges.
-use Rattle.std.proofs.Common.{◌≡◌, ℕ, ◌+◌, ◌<◌, ◌≤◌, Bool, true, false, cond, ◌⊎◌, inl, inr, List, [], ◌∷◌, ◌++◌, length, refl, sym, ap, subst, ◌∙◌, Option, Some, None, Result, Ok, Err, arith}
+use Rattle.std.proofs.Common.{◌≡◌, ℕ, ◌+◌, ◌<◌, ◌≤◌, Bool, true, false, cond, ◌⊎◌, inl, inr, List}
+use Rattle.std.proofs.Common.{[], ◌∷◌, ◌++◌, length, refl, sym, ap, subst, ◌∙◌, Option, Some, None}
+use Rattle.std.proofs.Common.{Result, Ok, Err, arith}
 use Rattle.std.specs.Prelude.{IfOk, IfSome, nat_eq, nat_le, nat_lt, codes}
-use Rattle.pg_family_files.proofs.Common.{FinSet, from_list, contains-from_list_nat, list_any, All, AllByRecursion, nat_cmp, bytes_eq, or_cases, false≢true, nat_tests, length-append, All-from_recursion, Gives, and_then, each_of, go_on, onto, reading, Bytes, ascend_from, lines, number, parts, FileError, all_append, has_one_slash, before_slash, after_slash, SpanBody, SpanCert, SpanClaim}
+use Rattle.pg_family_files.proofs.Common.{FinSet, from_list, contains-from_list_nat, list_any, All}
+use Rattle.pg_family_files.proofs.Common.{AllByRecursion, nat_cmp, bytes_eq, or_cases, false≢true}
+use Rattle.pg_family_files.proofs.Common.{nat_tests, length-append, All-from_recursion, Gives}
+use Rattle.pg_family_files.proofs.Common.{and_then, each_of, go_on, onto, reading, Bytes}
+use Rattle.pg_family_files.proofs.Common.{ascend_from, lines, number, parts, FileError, all_append}
+use Rattle.pg_family_files.proofs.Common.{has_one_slash, before_slash, after_slash, SpanBody}
+use Rattle.pg_family_files.proofs.Common.{SpanCert, SpanClaim}
 use Rattle.std.specs.Global.{Vec}
 use Rattle.pg_text.specs.declared.error.LineError.{LineError}
 use Rattle.pg_span.specs.declared.cert.SpanBody.TheVariants as bodies
-use Rattle.pg_family_files.specs.SpanCertFile.{Draft, nothing, header_line, claimed, body_line, line_due, after, end_fault, ended, said, span_cert}
-use Rattle.pg_family_files.specs.SpanCertLine.{TreeWords, ascending, body_from, body_of, cut_first, edges_of, first_edge, head_of, number_in, parts_of, small, trees_of}
+use Rattle.pg_family_files.specs.SpanCertFile.{Draft, nothing, header_line, claimed, body_line}
+use Rattle.pg_family_files.specs.SpanCertFile.{line_due, after, end_fault, ended, said, span_cert}
+use Rattle.pg_family_files.specs.SpanCertLine.{TreeWords, ascending, body_from, body_of, cut_first}
+use Rattle.pg_family_files.specs.SpanCertLine.{edges_of, first_edge, head_of, number_in, parts_of}
+use Rattle.pg_family_files.specs.SpanCertLine.{small, trees_of}
 use Rattle.pg_family_files.specs.SpanCertPrint.{AreSmall, IsSmallBody, IsWithinRanges}
 use Rattle.pg_family_files.specs.SpanCertViews.{IsReadAs}
 use Rattle.pg_family_files.specs.declared.cert_draft.Due.{Due}

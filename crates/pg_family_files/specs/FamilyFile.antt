@@ -1,6 +1,13 @@
 -- What a file of a family's game says, and the fault that it has.
-use Rattle.std.specs.Prelude.{ℕ, ◌+◌, ◌*◌, Bool, true, false, ◌&&◌, ◌||◌, not, nat_lt, nat_le, ◌==◌, if◌then◌else◌, List, [], ◌∷◌, ◌++◌, length, Option, Some, None, is_none, unwrap_or, codes, Result, Ok, Err}
-use Rattle.pg_family_files.specs.Prelude.{list_all, bytes_eq, FinSet, empty, nat_cmp, MAX_EDGES, Side, side_of, Bytes, lines, words, numbers, least, unless, reading, Graph, MAX_VERTICES, MAX_GAME_BYTES, Fault, set_of, repeats, first, rest, numbers_of, first_number, second_number, is_outside, is_printable, begins_comment, MAX_ROWS, MAX_VECTORS}
+use Rattle.std.specs.Prelude.{ℕ, ◌+◌, ◌*◌, Bool, true, false, ◌&&◌, ◌||◌, not, nat_lt, nat_le, ◌==◌}
+use Rattle.std.specs.Prelude.{if◌then◌else◌, List, [], ◌∷◌, ◌++◌, length, Option, Some, None}
+use Rattle.std.specs.Prelude.{is_none, unwrap_or, codes, Result, Ok, Err}
+use Rattle.pg_family_files.specs.Prelude.{list_all, bytes_eq, FinSet, empty, nat_cmp, MAX_EDGES}
+use Rattle.pg_family_files.specs.Prelude.{Side, side_of, Bytes, lines, words, numbers, least}
+use Rattle.pg_family_files.specs.Prelude.{unless, reading, Graph, MAX_VERTICES, MAX_GAME_BYTES}
+use Rattle.pg_family_files.specs.Prelude.{Fault, set_of, repeats, first, rest, numbers_of}
+use Rattle.pg_family_files.specs.Prelude.{first_number, second_number, is_outside, is_printable}
+use Rattle.pg_family_files.specs.Prelude.{begins_comment, MAX_ROWS, MAX_VECTORS}
 use Rattle.pg_files.specs.declared.fault.Fault.TheVariants as faults
 use Rattle.pg_family_files.specs.Family.{header_word, key_of, rank_of, needed_rank}
 use Rattle.pg_family_files.specs.declared.family.Family.{Family}

@@ -1,6 +1,8 @@
 -- What a fault of a file means, above the definition of reading.
-use Rattle.std.specs.Prelude.{◌≡◌, ℕ, ◌+◌, ◌<◌, Bool, true, false, not, ◌||◌, ◌⊎◌, if◌then◌else◌, List, [], ◌∷◌, ◌++◌, length, Option, Some, None, is_none, Ok, ◌==◌}
-use Rattle.pg_family_files.specs.Prelude.{list_all, Bytes, lines, words, reading, IsLeast, MAX_GAME_BYTES, Fault}
+use Rattle.std.specs.Prelude.{◌≡◌, ℕ, ◌+◌, ◌<◌, Bool, true, false, not, ◌||◌, ◌⊎◌, if◌then◌else◌}
+use Rattle.std.specs.Prelude.{List, [], ◌∷◌, ◌++◌, length, Option, Some, None, is_none, Ok, ◌==◌}
+use Rattle.pg_family_files.specs.Prelude.{list_all, Bytes, lines, words, reading, IsLeast}
+use Rattle.pg_family_files.specs.Prelude.{MAX_GAME_BYTES, Fault}
 use Rattle.pg_files.specs.declared.fault.Fault.TheVariants as faults
 use Rattle.pg_files.specs.GameFile.{first, rest, is_printable, begins_comment}
 use Rattle.pg_family_files.specs.Family.{key_of}

@@ -1,6 +1,7 @@
 -- The printed texts of games of the families.
 use Rattle.std.specs.Prelude.{ℕ, zero, suc, ◌+◌, ◌/◌, ◌%◌, List, [], ◌∷◌, ◌++◌, map, codes}
-use Rattle.pg_family_files.specs.Prelude.{flat_map, Bytes, spelled, number_words, edge_words, last_lines, SpanGame, VecGame}
+use Rattle.pg_family_files.specs.Prelude.{flat_map, Bytes, spelled, number_words, edge_words}
+use Rattle.pg_family_files.specs.Prelude.{last_lines, SpanGame, VecGame}
 use Rattle.pg_family_files.specs.Family.{header_word, key_name}
 use Rattle.pg_family_files.specs.declared.family.Family.{Family}
 use Rattle.pg_family_files.specs.declared.family.Family.TheVariants as families

@@ -1,6 +1,8 @@
 -- What the first fault of a connectivity game's certificate is, in words of its lines.
-use Rattle.std.specs.Prelude.{◌≡◌, ℕ, ◌+◌, ◌<◌, ◌⊎◌, Bool, false, not, nat_le, is_none, is_err, if◌then◌else◌, List, [], ◌∷◌, ◌++◌, length, Some, Ok, codes}
-use Rattle.pg_family_files.specs.Prelude.{bytes_eq, SPACE, IsLeast, reading, Bytes, lines, parts, MAX_CLAIMS, has_one_slash}
+use Rattle.std.specs.Prelude.{◌≡◌, ℕ, ◌+◌, ◌<◌, ◌⊎◌, Bool, false, not, nat_le, is_none, is_err}
+use Rattle.std.specs.Prelude.{if◌then◌else◌, List, [], ◌∷◌, ◌++◌, length, Some, Ok, codes}
+use Rattle.pg_family_files.specs.Prelude.{bytes_eq, SPACE, IsLeast, reading, Bytes, lines, parts}
+use Rattle.pg_family_files.specs.Prelude.{MAX_CLAIMS, has_one_slash}
 use Rattle.pg_family_files.specs.SpanCertFile.{Draft, nothing, after, end_fault}
 use Rattle.pg_family_files.specs.SpanCertLine.{body_of, cut_first, head_of}
 use Rattle.pg_family_files.specs.declared.cert_draft.Due.{Due}

@@ -1,7 +1,9 @@
 -- Certificate files of connectivity games: which line is due, what each line adds, and the first
 -- fault.
-use Rattle.std.specs.Prelude.{ℕ, ◌+◌, ◌==◌, nat_lt, nat_le, if◌then◌else◌, List, [], ◌∷◌, ◌++◌, length, Option, Some, None, Result, Ok, Err, codes}
-use Rattle.pg_family_files.specs.Prelude.{bytes_eq, and_then, reading, Bytes, lines, MAX_CLAIMS, SpanCert, SpanClaim}
+use Rattle.std.specs.Prelude.{ℕ, ◌+◌, ◌==◌, nat_lt, nat_le, if◌then◌else◌, List, [], ◌∷◌, ◌++◌}
+use Rattle.std.specs.Prelude.{length, Option, Some, None, Result, Ok, Err, codes}
+use Rattle.pg_family_files.specs.Prelude.{bytes_eq, and_then, reading, Bytes, lines, MAX_CLAIMS}
+use Rattle.pg_family_files.specs.Prelude.{SpanCert, SpanClaim}
 use Rattle.pg_family_files.specs.SpanCertLine.{head_of, body_of}
 use Rattle.pg_family_files.specs.declared.cert_draft.Due.{Due}
 use Rattle.pg_family_files.specs.declared.cert_draft.Due.TheVariants as due

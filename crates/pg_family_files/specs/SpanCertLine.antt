@@ -1,6 +1,10 @@
 -- What the lines of a connectivity game's certificate say.
-use Rattle.std.specs.Prelude.{ℕ, Bool, nat_le, if◌then◌else◌, List, [], ◌∷◌, Option, Some, None, Result, Ok, Err, codes}
-use Rattle.pg_family_files.specs.Prelude.{FinSet, from_list, nat_cmp, bytes_eq, side_of, Side, SPACE, and_then, each_of, Bytes, parts, number, ascend_from, has_one_slash, before_slash, after_slash, SpanBody}
+use Rattle.std.specs.Prelude.{ℕ, Bool, nat_le, if◌then◌else◌, List, [], ◌∷◌, Option, Some, None}
+use Rattle.std.specs.Prelude.{Result, Ok, Err, codes}
+use Rattle.pg_family_files.specs.Prelude.{FinSet, from_list, nat_cmp, bytes_eq, side_of, Side}
+use Rattle.pg_family_files.specs.Prelude.{SPACE, and_then, each_of, Bytes, parts, number}
+use Rattle.pg_family_files.specs.Prelude.{ascend_from, has_one_slash, before_slash, after_slash}
+use Rattle.pg_family_files.specs.Prelude.{SpanBody}
 use Rattle.pg_span.specs.declared.cert.SpanBody.TheVariants as bodies
 use Rattle.pg_family_files.specs.declared.cert_fault.Fault.{Fault}
 use Rattle.pg_family_files.specs.declared.cert_fault.Fault.TheVariants as faults

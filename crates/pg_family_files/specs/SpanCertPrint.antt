@@ -1,6 +1,9 @@
 -- The printed text of a connectivity game's certificate, and the ranges of what is printed.
-use Rattle.std.specs.Prelude.{◌≡◌, ℕ, ◌<◌, ◌≤◌, true, List, [], ◌∷◌, ◌++◌, length, map, codes, Option, Some, None, IfSome}
-use Rattle.pg_family_files.specs.Prelude.{FinSet, contains, decimal, All, flat_map, nat_cmp, side_word, Bytes, spelled, set_words, MAX_CLAIMS, SpanBody, SpanCert, SpanClaim}
+use Rattle.std.specs.Prelude.{◌≡◌, ℕ, ◌<◌, ◌≤◌, true, List, [], ◌∷◌, ◌++◌, length, map, codes}
+use Rattle.std.specs.Prelude.{Option, Some, None, IfSome}
+use Rattle.pg_family_files.specs.Prelude.{FinSet, contains, decimal, All, flat_map, nat_cmp}
+use Rattle.pg_family_files.specs.Prelude.{side_word, Bytes, spelled, set_words, MAX_CLAIMS}
+use Rattle.pg_family_files.specs.Prelude.{SpanBody, SpanCert, SpanClaim}
 use Rattle.pg_span.specs.declared.cert.SpanBody.TheVariants as bodies
 use Rattle.pg_family_files.specs.declared.cert_limits.TheConstants.{MAX_SPAN_NUMBER}
 

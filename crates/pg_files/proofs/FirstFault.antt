@@ -1,10 +1,16 @@
 -- The first fault of a file, and the least of its line.
-use Rattle.std.proofs.Common.{◌≡◌, ℕ, ◌<◌, Bool, true, false, cond, not, ◌||◌, ◌⊎◌, inl, inr, List, [], ◌∷◌, length, Result, Ok, Err, Option, Some, None, refl, sym, ap, ◌∙◌, arith}
+use Rattle.std.proofs.Common.{◌≡◌, ℕ, ◌<◌, Bool, true, false, cond, not, ◌||◌, ◌⊎◌, inl, inr, List}
+use Rattle.std.proofs.Common.{[], ◌∷◌, length, Result, Ok, Err, Option, Some, None, refl, sym, ap}
+use Rattle.std.proofs.Common.{◌∙◌, arith}
 use Rattle.std.specs.Prelude.{nat_lt, ◌==◌, is_none}
-use Rattle.pg_files.proofs.Common.{list_all, ltb-true, Kind, Side, Bytes, lines, words, reading, least, IsLeast}
+use Rattle.pg_files.proofs.Common.{list_all, ltb-true, Kind, Side, Bytes, lines, words, reading}
+use Rattle.pg_files.proofs.Common.{least, IsLeast}
 use Rattle.pg_files.specs.Key.{key_of}
-use Rattle.pg_files.specs.GameFile.{Draft, Entry, nothing, after, significant, keyed, keyed_fault, named, said, first, rest, is_header, is_printable, begins_comment, game, ended, game_of}
-use Rattle.pg_files.specs.Laws.{named_faults, words_faults, line_faults, IsFirstFault, Lacks, IsWholeFault}
+use Rattle.pg_files.specs.GameFile.{Draft, Entry, nothing, after, significant, keyed, keyed_fault}
+use Rattle.pg_files.specs.GameFile.{named, said, first, rest, is_header, is_printable}
+use Rattle.pg_files.specs.GameFile.{begins_comment, game, ended, game_of}
+use Rattle.pg_files.specs.Laws.{named_faults, words_faults, line_faults, IsFirstFault, Lacks}
+use Rattle.pg_files.specs.Laws.{IsWholeFault}
 use Rattle.pg_files.specs.declared.fault.Fault.{Fault}
 use Rattle.pg_files.specs.declared.fault.Fault.TheVariants as faults
 use Rattle.pg_files.specs.declared.key.Key.{Key}

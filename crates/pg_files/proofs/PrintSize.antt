@@ -1,14 +1,20 @@
 -- A printed game is within the limit of a file, and its lines are words.
-use Rattle.std.proofs.Common.{◌≡◌, ℕ, ◌+◌, ◌*◌, ◌<◌, ◌≤◌, lit<, lit≤, Bool, true, false, cond, List, [], ◌∷◌, ◌++◌, length, map, arith, refl, ap, ◌∙◌}
+use Rattle.std.proofs.Common.{◌≡◌, ℕ, ◌+◌, ◌*◌, ◌<◌, ◌≤◌, lit<, lit≤, Bool, true, false, cond, List}
+use Rattle.std.proofs.Common.{[], ◌∷◌, ◌++◌, length, map, arith, refl, ap, ◌∙◌}
 use Rattle.std.specs.Prelude.{nat_lt, sum_by, Option, Some, None}
-use Rattle.pg_files.proofs.Common.{decimal, list_all, flat_map, All, AllByRecursion, ltb-true, and_parts, length-decimal-le, length-append, All-tail, sum_by-cons, flat_map-append, Grid, Kind}
+use Rattle.pg_files.proofs.Common.{decimal, list_all, flat_map, All, AllByRecursion, ltb-true}
+use Rattle.pg_files.proofs.Common.{and_parts, length-decimal-le, length-append, All-tail}
+use Rattle.pg_files.proofs.Common.{sum_by-cons, flat_map-append, Grid, Kind}
 use Rattle.pg_base.specs.declared.kind.Kind.TheVariants as kinds
 use Rattle.pg_base.specs.declared.side.Side.{Side}
 use Rattle.pg_base.specs.declared.side.Side.TheVariants as sides
 use Rattle.pg_files.proofs.Common.{Graph, Field}
 use Rattle.pg_game.specs.declared.field.Field.TheVariants as fields
-use Rattle.pg_files.proofs.Common.{LineField, field_points, greatest_bias, IsLineOf, AreLinesOf, IsBoard, IsFit, Bytes, spaced, spelled, members, kind_word, side_word}
-use Rattle.pg_files.specs.Print.{header, numbered, worded, marked, size_words, bias_words, edge_words, field_words, printed, printed_lines}
+use Rattle.pg_files.proofs.Common.{LineField, field_points, greatest_bias, IsLineOf, AreLinesOf}
+use Rattle.pg_files.proofs.Common.{IsBoard, IsFit, Bytes, spaced, spelled, members, kind_word}
+use Rattle.pg_files.proofs.Common.{side_word}
+use Rattle.pg_files.specs.Print.{header, numbered, worded, marked, size_words, bias_words}
+use Rattle.pg_files.specs.Print.{edge_words, field_words, printed, printed_lines}
 use Rattle.pg_files.specs.Key.{key_name}
 use Rattle.pg_files.specs.GameFile.{Entry}
 use Rattle.pg_files.specs.declared.key.Key.{Key}
@@ -16,7 +22,8 @@ use Rattle.pg_files.specs.declared.key.Key.TheVariants as keys
 use Rattle.pg_files.proofs.Words.{is_word, decimals_are_words}
 use Rattle.pg_base.proofs.MemberLemmas.{points_below-length}
 use Rattle.pg_files.proofs.SetLaws.{below-members}
-use Rattle.pg_files.proofs.RoundTrip.{AreSmall, smaller, one_small, two_small, all_below, factors, key_is_word, kind_is_word, side_is_word}
+use Rattle.pg_files.proofs.RoundTrip.{AreSmall, smaller, one_small, two_small, all_below, factors}
+use Rattle.pg_files.proofs.RoundTrip.{key_is_word, kind_is_word, side_is_word}
 
 -- ---- what is printed is small numbers
 

@@ -1,15 +1,20 @@
 -- What is printed is read again.
-use Rattle.std.proofs.Common.{◌≡◌, ℕ, ◌+◌, ◌*◌, ◌<◌, ◌≤◌, true, false, ◌&&◌, inl, inr, List, [], ◌∷◌, ◌++◌, length, map, arith, refl, ap, ◌∙◌, Ok}
+use Rattle.std.proofs.Common.{◌≡◌, ℕ, ◌+◌, ◌*◌, ◌<◌, ◌≤◌, true, false, ◌&&◌, inl, inr, List, []}
+use Rattle.std.proofs.Common.{◌∷◌, ◌++◌, length, map, arith, refl, ap, ◌∙◌, Ok}
 use Rattle.std.specs.Prelude.{◌==◌, nat_lt, nat_le, sum_by, Option, Some, None}
-use Rattle.pg_files.proofs.Common.{decimal, list_all, All, empty, cases_lt, lt-ltb, ne_eqb, and_parts, and_right, nat_tests, All-tail, Grid, Kind}
+use Rattle.pg_files.proofs.Common.{decimal, list_all, All, empty, cases_lt, lt-ltb, ne_eqb}
+use Rattle.pg_files.proofs.Common.{and_parts, and_right, nat_tests, All-tail, Grid, Kind}
 use Rattle.std.proofs.Math.Nat.{le-mul_of_pos_right, mul_comm}
 use Rattle.pg_base.specs.declared.kind.Kind.TheVariants as kinds
 use Rattle.pg_base.specs.declared.side.Side.{Side}
 use Rattle.pg_base.specs.declared.side.Side.TheVariants as sides
-use Rattle.pg_files.proofs.Common.{greatest_bias, is_switching, longest, Bytes, spaced, lines, kind_word, kind_of, side_word, side_of}
+use Rattle.pg_files.proofs.Common.{greatest_bias, is_switching, longest, Bytes, spaced, lines}
+use Rattle.pg_files.proofs.Common.{kind_word, kind_of, side_word, side_of}
 use Rattle.pg_files.specs.Sets.{set_of, ascending, repeats}
 use Rattle.pg_files.specs.Key.{key_name, key_of, rank_of, belongs, needed_rank}
-use Rattle.pg_files.specs.GameFile.{Draft, nothing, after, significant, keyed, is_out_of_place, is_misplaced, lacks_grid, begins_comment, points_so_far, is_outside}
+use Rattle.pg_files.specs.GameFile.{Draft, nothing, after, significant, keyed, is_out_of_place}
+use Rattle.pg_files.specs.GameFile.{is_misplaced, lacks_grid, begins_comment, points_so_far}
+use Rattle.pg_files.specs.GameFile.{is_outside}
 use Rattle.pg_files.specs.declared.key.Key.{Key}
 use Rattle.pg_files.specs.declared.key.Key.TheVariants as keys
 use Rattle.pg_files.proofs.Words.{is_word, words_again, numbers_decimals, spaced_printable}

@@ -1,22 +1,36 @@
 -- A printed file is read line by line, each line after those before it.
-use Rattle.std.proofs.Common.{◌≡◌, ℕ, ◌+◌, ◌*◌, ◌<◌, ◌≤◌, lit<, lit≤, Bool, true, false, cond, inl, inr, List, [], ◌∷◌, ◌++◌, length, map, arith, refl, sym, ap, subst, append_assoc, ◌∙◌, Ok, Err}
+use Rattle.std.proofs.Common.{◌≡◌, ℕ, ◌+◌, ◌*◌, ◌<◌, ◌≤◌, lit<, lit≤, Bool, true, false, cond, inl}
+use Rattle.std.proofs.Common.{inr, List, [], ◌∷◌, ◌++◌, length, map, arith, refl, sym, ap, subst}
+use Rattle.std.proofs.Common.{append_assoc, ◌∙◌, Ok, Err}
 use Rattle.std.specs.Prelude.{nat_lt, sum_by, Option, Some, None}
-use Rattle.pg_files.proofs.Common.{decimal, list_all, All, FinSet, empty, nat_cmp, cases_Bool, ltb-true, ltb-false, nat_tests, append-nil, length-append, map-append, All-tail, sum_by-cons, sum_by_push, Grid, Kind}
+use Rattle.pg_files.proofs.Common.{decimal, list_all, All, FinSet, empty, nat_cmp, cases_Bool}
+use Rattle.pg_files.proofs.Common.{ltb-true, ltb-false, nat_tests, append-nil, length-append}
+use Rattle.pg_files.proofs.Common.{map-append, All-tail, sum_by-cons, sum_by_push, Grid, Kind}
 use Rattle.pg_base.specs.declared.kind.Kind.TheVariants as kinds
 use Rattle.pg_files.proofs.Common.{Side, Graph, Field}
 use Rattle.pg_game.specs.declared.field.Field.TheVariants as fields
-use Rattle.pg_files.proofs.Common.{LineField, Game, field_points, AreBelow, ShareNone, IsLineOf, AreLinesOf, IsBoard, IsFit, is_switching, longest, greatest_bias, Bytes, spaced, lines, words, members, points_below-ascend, from_list-points_below, kind_word, side_word, reading}
+use Rattle.pg_files.proofs.Common.{LineField, Game, field_points, AreBelow, ShareNone, IsLineOf}
+use Rattle.pg_files.proofs.Common.{AreLinesOf, IsBoard, IsFit, is_switching, longest, greatest_bias}
+use Rattle.pg_files.proofs.Common.{Bytes, spaced, lines, words, members, points_below-ascend}
+use Rattle.pg_files.proofs.Common.{from_list-points_below, kind_word, side_word, reading}
 use Rattle.pg_files.specs.Sets.{set_of, ascending, repeats}
-use Rattle.pg_files.specs.Print.{header, numbered, worded, marked, size_words, bias_words, edge_words, field_words, last_lines, printed, printed_lines}
-use Rattle.pg_files.specs.GameFile.{Draft, Entry, nothing, after, significant, game, game_of, is_misplaced, points_for, points_so_far, field_of}
+use Rattle.pg_files.specs.Print.{header, numbered, worded, marked, size_words, bias_words}
+use Rattle.pg_files.specs.Print.{edge_words, field_words, last_lines, printed, printed_lines}
+use Rattle.pg_files.specs.GameFile.{Draft, Entry, nothing, after, significant, game, game_of}
+use Rattle.pg_files.specs.GameFile.{is_misplaced, points_for, points_so_far, field_of}
 use Rattle.pg_files.specs.Views.{entry}
 use Rattle.pg_files.specs.declared.fault.Fault.TheVariants as faults
 use Rattle.pg_files.specs.declared.key.Key.TheVariants as keys
 use Rattle.pg_files.proofs.Words.{lines_spelled, decimals_are_words}
-use Rattle.pg_files.proofs.SetLaws.{ascending_is, repeats_none, below-members, members-apart, below_more}
+use Rattle.pg_files.proofs.SetLaws.{ascending_is, repeats_none, below-members, members-apart}
+use Rattle.pg_files.proofs.SetLaws.{below_more}
 use Rattle.pg_files.proofs.Sound.{lines_kind}
 use Rattle.pg_files.proofs.PrintSize.{printed_small, greatest_bias-few}
-use Rattle.pg_files.proofs.RoundTrip.{smaller, one_small, two_small, all_below, factors, after_keyed, kind_is_word, side_is_word, in_place, line_in_place, edge_in_place, keyed_line, keyed_edge, keyed_x, keyed_y, keyed_turn, of_kind, keyed_kind, keyed_points, keyed_grid, keyed_bias, keyed_vertices, keyed_terminals}
+use Rattle.pg_files.proofs.RoundTrip.{smaller, one_small, two_small, all_below, factors}
+use Rattle.pg_files.proofs.RoundTrip.{after_keyed, kind_is_word, side_is_word, in_place}
+use Rattle.pg_files.proofs.RoundTrip.{line_in_place, edge_in_place, keyed_line, keyed_edge, keyed_x}
+use Rattle.pg_files.proofs.RoundTrip.{keyed_y, keyed_turn, of_kind, keyed_kind, keyed_points}
+use Rattle.pg_files.proofs.RoundTrip.{keyed_grid, keyed_bias, keyed_vertices, keyed_terminals}
 
 -- ---- one line after the other
 

@@ -1,7 +1,14 @@
 -- Lists of numbers and their sets.
-use Rattle.std.proofs.Common.{◌≡◌, ℕ, ◌+◌, ◌<◌, ◌≤◌, Bool, true, false, cond, ◌&&◌, List, [], ◌∷◌, length, take, drop, get_or, add-one, drop-cons, refl, sym, ap, ◌∙◌, arith, eqb, ltb, inl, inr, Less}
+use Rattle.std.proofs.Common.{◌≡◌, ℕ, ◌+◌, ◌<◌, ◌≤◌, Bool, true, false, cond, ◌&&◌, List, [], ◌∷◌}
+use Rattle.std.proofs.Common.{length, take, drop, get_or, add-one, drop-cons, refl, sym, ap, ◌∙◌}
+use Rattle.std.proofs.Common.{arith, eqb, ltb, inl, inr, Less}
 use Rattle.std.specs.Prelude.{nat_lt, nat_eq, ◌==◌}
-use Rattle.pg_files.proofs.Common.{list_all, list_any, count_by, AllByRecursion, IsDistinct, FinSet, contains, insert, empty, from_list_push, contains-from_list_nat, contains-empty, nat_cmp, cases_Bool, cases_eq, cases_lt, eq-eqb, ne_eqb, eqb-true, ltb-true, and_parts, or_cases, or_parts, or_right, nat_tests, sum_by-cons, take_more, MAX_MEMBERS, members, points_below-ascend, has-points_below}
+use Rattle.pg_files.proofs.Common.{list_all, list_any, count_by, AllByRecursion, IsDistinct, FinSet}
+use Rattle.pg_files.proofs.Common.{contains, insert, empty, from_list_push, contains-from_list_nat}
+use Rattle.pg_files.proofs.Common.{contains-empty, nat_cmp, cases_Bool, cases_eq, cases_lt, eq-eqb}
+use Rattle.pg_files.proofs.Common.{ne_eqb, eqb-true, ltb-true, and_parts, or_cases, or_parts}
+use Rattle.pg_files.proofs.Common.{or_right, nat_tests, sum_by-cons, take_more, MAX_MEMBERS}
+use Rattle.pg_files.proofs.Common.{members, points_below-ascend, has-points_below}
 use Rattle.std.specs.List.Sorted.{IsPermutation, IsStrictlyIncreasing, IsStrictlySortedBy}
 use Rattle.std.specs.Cmp.{nat_cmp_total, IsEquivalence, decided}
 use Rattle.std.specs.FinMap.{nat_cmp-IsAntisymmetric}

@@ -1,7 +1,10 @@
 -- What a line of a shape says.
-use Rattle.std.proofs.Common.{◌≡◌, ◌∙◌, ℕ, ◌+◌, ◌*◌, ◌<◌, ◌≤◌, Bool, true, false, cond, ◌&&◌, ◌||◌, List, [], ◌∷◌, ◌++◌, length, get_or, arith, refl, sym, ap, ap₂, Some, None, Err, map, Bor}
+use Rattle.std.proofs.Common.{◌≡◌, ◌∙◌, ℕ, ◌+◌, ◌*◌, ◌<◌, ◌≤◌, Bool, true, false, cond, ◌&&◌, ◌||◌}
+use Rattle.std.proofs.Common.{List, [], ◌∷◌, ◌++◌, length, get_or, arith, refl, sym, ap, ap₂, Some}
+use Rattle.std.proofs.Common.{None, Err, map, Bor}
 use Rattle.std.specs.Prelude.{nat_lt, not, sum_by}
-use Rattle.pg_files.proofs.Common.{nat_tests, sum_by-append, Grid, Bytes, longest, Cell, is_shape, placements_of, cells_of, ones, line_of_cells, unless}
+use Rattle.pg_files.proofs.Common.{nat_tests, sum_by-append, Grid, Bytes, longest, Cell, is_shape}
+use Rattle.pg_files.proofs.Common.{placements_of, cells_of, ones, line_of_cells, unless}
 use Rattle.pg_files.specs.GameFile.{Draft, exceeds_with, is_out_of_place, keyed, placed_in, said}
 use Rattle.pg_files.specs.declared.fault.Fault.TheVariants as faults
 use Rattle.pg_files.specs.declared.key.Key.TheVariants as keys

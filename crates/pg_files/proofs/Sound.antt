@@ -1,21 +1,36 @@
 -- What is read is within the limits.
-use Rattle.std.proofs.Common.{◌≡◌, ◌≢◌, ℕ, suc, ◌+◌, ◌*◌, ◌<◌, ◌≤◌, lit≤, Bool, true, false, cond, ◌&&◌, ◌||◌, ◌⊎◌, inl, inr, List, [], ◌∷◌, ◌++◌, length, get_or, arith, refl, sym, ap, subst, ◌∙◌, Option, Some, None, Result, Ok, Err}
+use Rattle.std.proofs.Common.{◌≡◌, ◌≢◌, ℕ, suc, ◌+◌, ◌*◌, ◌<◌, ◌≤◌, lit≤, Bool, true, false, cond}
+use Rattle.std.proofs.Common.{◌&&◌, ◌||◌, ◌⊎◌, inl, inr, List, [], ◌∷◌, ◌++◌, length, get_or, arith}
+use Rattle.std.proofs.Common.{refl, sym, ap, subst, ◌∙◌, Option, Some, None, Result, Ok, Err}
 use Rattle.std.specs.Prelude.{◌==◌, nat_lt, nat_le, not, sum_by, is_none, unwrap_or}
-use Rattle.pg_files.proofs.Common.{list_all, All, AllByRecursion, FinSet, contains, empty, contains-empty, nat_cmp, cases_lt, ltb-true, ltb-false, eqb-false, and_parts, or_parts, nat_tests, length-append, All-cons, All-push, All-tail, sum_by_push, sum_by-append, sum_by-cons, AllPass-from_list_all, Grid, Kind}
+use Rattle.pg_files.proofs.Common.{list_all, All, AllByRecursion, FinSet, contains, empty}
+use Rattle.pg_files.proofs.Common.{contains-empty, nat_cmp, cases_lt, ltb-true, ltb-false}
+use Rattle.pg_files.proofs.Common.{eqb-false, and_parts, or_parts, nat_tests, length-append}
+use Rattle.pg_files.proofs.Common.{All-cons, All-push, All-tail, sum_by_push, sum_by-append}
+use Rattle.pg_files.proofs.Common.{sum_by-cons, AllPass-from_list_all, Grid, Kind}
 use Rattle.pg_base.specs.declared.kind.Kind.TheVariants as kinds
 use Rattle.pg_files.proofs.Common.{Side, Graph, Field}
 use Rattle.pg_game.specs.declared.field.Field.TheVariants as fields
-use Rattle.pg_files.proofs.Common.{LineField, AreBelow, ShareNone, IsLineOf, AreLinesOf, IsBoard, IsFit, is_switching, greatest_bias, longest, Bytes, number, lines, Cell, is_shape, placements_of, cells_of, ones, line_of_cells, words, numbers, then_numbers, kind_of, least, unless, reading, go_on}
+use Rattle.pg_files.proofs.Common.{LineField, AreBelow, ShareNone, IsLineOf, AreLinesOf, IsBoard}
+use Rattle.pg_files.proofs.Common.{IsFit, is_switching, greatest_bias, longest, Bytes, number}
+use Rattle.pg_files.proofs.Common.{lines, Cell, is_shape, placements_of, cells_of, ones}
+use Rattle.pg_files.proofs.Common.{line_of_cells, words, numbers, then_numbers, kind_of, least}
+use Rattle.pg_files.proofs.Common.{unless, reading, go_on}
 use Rattle.pg_poly.proofs.Decides.{count_cells, shape_from}
 use Rattle.pg_files.specs.Sets.{set_of, ascending, repeats}
 use Rattle.pg_files.specs.Key.{rank_of, key_of, belongs, needed_rank}
-use Rattle.pg_files.specs.GameFile.{Draft, keyed_faults, keyed_fault, said, keyed, significant, after, numbers_of, first_number, second_number, first, rest, nothing, named, is_header, begins_comment, is_printable, is_misplaced, lacks_grid, placed_in, exceeds_with, is_outside, points_for, field_of, Entry, game, ended, game_of}
+use Rattle.pg_files.specs.GameFile.{Draft, keyed_faults, keyed_fault, said, keyed, significant}
+use Rattle.pg_files.specs.GameFile.{after, numbers_of, first_number, second_number, first, rest}
+use Rattle.pg_files.specs.GameFile.{nothing, named, is_header, begins_comment, is_printable}
+use Rattle.pg_files.specs.GameFile.{is_misplaced, lacks_grid, placed_in, exceeds_with, is_outside}
+use Rattle.pg_files.specs.GameFile.{points_for, field_of, Entry, game, ended, game_of}
 use Rattle.pg_files.specs.declared.fault.Fault.{Fault}
 use Rattle.pg_files.specs.declared.fault.Fault.TheVariants as faults
 use Rattle.pg_files.specs.declared.key.Key.{Key}
 use Rattle.pg_files.specs.declared.key.Key.TheVariants as keys
 use Rattle.pg_base.proofs.MemberLemmas.{points_below-ascend}
-use Rattle.pg_files.proofs.SetLaws.{has, in_set_of, length-ascending, below-ascending, has-below, below_more, repeats_apart}
+use Rattle.pg_files.proofs.SetLaws.{has, in_set_of, length-ascending, below-ascending, has-below}
+use Rattle.pg_files.proofs.SetLaws.{below_more, repeats_apart}
 
 -- ---- tables and tests
 

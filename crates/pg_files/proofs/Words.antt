@@ -1,9 +1,13 @@
 -- Words that are joined are cut again into the same words.
-use Rattle.std.proofs.Common.{◌≡◌, ℕ, ◌^◌, ◌<◌, Bool, true, false, ◌&&◌, List, [], ◌∷◌, ◌++◌, length, map, arith, refl, ap, ◌∙◌, append_assoc}
+use Rattle.std.proofs.Common.{◌≡◌, ℕ, ◌^◌, ◌<◌, Bool, true, false, ◌&&◌, List, [], ◌∷◌, ◌++◌}
+use Rattle.std.proofs.Common.{length, map, arith, refl, ap, ◌∙◌, append_assoc}
 use Rattle.std.specs.Prelude.{◌==◌, nat_lt, not, filter, Some}
-use Rattle.pg_files.proofs.Common.{decimal, list_all, flat_map, AllByRecursion, nat_tests, decimal_is_IsNumeral, ltb-true, and_parts, Bytes, Lacks, spaced, lines, spelled, words, numbers}
+use Rattle.pg_files.proofs.Common.{decimal, list_all, flat_map, AllByRecursion, nat_tests}
+use Rattle.pg_files.proofs.Common.{decimal_is_IsNumeral, ltb-true, and_parts, Bytes, Lacks, spaced}
+use Rattle.pg_files.proofs.Common.{lines, spelled, words, numbers}
 use Rattle.pg_text.proofs.Decimals.{all_pass, number_decimal}
-use Rattle.pg_text.proofs.PlainWords.{IsPlain, IsQuiet, IsWord, decimal_is_word, words_spaced, spaced_quiet, quiet_lacks_feed}
+use Rattle.pg_text.proofs.PlainWords.{IsPlain, IsQuiet, IsWord, decimal_is_word, words_spaced}
+use Rattle.pg_text.proofs.PlainWords.{spaced_quiet, quiet_lacks_feed}
 use Rattle.pg_text.proofs.FirstLine.{lines_feed}
 use Rattle.pg_files.specs.GameFile.{is_printable}
 

@@ -1,11 +1,16 @@
 -- What a game file says, and the fault that it has.
-use Rattle.std.specs.Prelude.{◌≡◌, ℕ, ◌+◌, ◌*◌, Bool, true, false, ◌&&◌, ◌||◌, not, nat_lt, nat_le, ◌==◌, if◌then◌else◌, List, [], ◌∷◌, ◌++◌, length, Option, Some, None, is_none, unwrap_or, codes, Result, Ok, Err, sum_by}
+use Rattle.std.specs.Prelude.{◌≡◌, ℕ, ◌+◌, ◌*◌, Bool, true, false, ◌&&◌, ◌||◌, not, nat_lt, nat_le}
+use Rattle.std.specs.Prelude.{◌==◌, if◌then◌else◌, List, [], ◌∷◌, ◌++◌, length, Option, Some, None}
+use Rattle.std.specs.Prelude.{is_none, unwrap_or, codes, Result, Ok, Err, sum_by}
 use Rattle.pg_files.specs.Prelude.{list_all, bytes_eq, FinSet, empty, nat_cmp, Grid, Kind}
 use Rattle.pg_base.specs.declared.signs.TheConstants.{SPACE}
 use Rattle.pg_base.specs.declared.kind.Kind.TheVariants as kinds
 use Rattle.pg_files.specs.Prelude.{Side, Field}
 use Rattle.pg_game.specs.declared.field.Field.TheVariants as fields
-use Rattle.pg_files.specs.Prelude.{Bytes, lines, words, numbers, Cell, is_shape, placements_of, cells_of, ones, MAX_EDGES, MAX_BIAS, MAX_LINES, MAX_POINTS, MAX_SUMMED_POINTS, MAX_VERTICES, longest, least, unless, reading, kind_of, side_of}
+use Rattle.pg_files.specs.Prelude.{Bytes, lines, words, numbers, Cell, is_shape, placements_of}
+use Rattle.pg_files.specs.Prelude.{cells_of, ones, MAX_EDGES, MAX_BIAS, MAX_LINES, MAX_POINTS}
+use Rattle.pg_files.specs.Prelude.{MAX_SUMMED_POINTS, MAX_VERTICES, longest, least, unless, reading}
+use Rattle.pg_files.specs.Prelude.{kind_of, side_of}
 use Rattle.pg_files.specs.declared.limits.TheConstants.{MAX_GAME_BYTES}
 use Rattle.pg_files.specs.Sets.{set_of, ascending, repeats}
 use Rattle.pg_files.specs.Key.{key_of, rank_of, belongs, needed_rank}

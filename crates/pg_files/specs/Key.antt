@@ -1,5 +1,6 @@
 -- The keys of a game file.
-use Rattle.std.specs.Prelude.{ℕ, Bool, true, not, nat_lt, Option, List, [], ◌∷◌, codes, find, if◌then◌else◌}
+use Rattle.std.specs.Prelude.{ℕ, Bool, true, not, nat_lt, Option, List, [], ◌∷◌, codes, find}
+use Rattle.std.specs.Prelude.{if◌then◌else◌}
 use Rattle.pg_files.specs.Prelude.{bytes_eq, Bytes, Kind, is_switching, greatest_bias}
 use Rattle.pg_files.specs.declared.key.Key.{Key}
 use Rattle.pg_files.specs.declared.key.Key.TheVariants as keys

@@ -1,9 +1,11 @@
 -- What a fault of a file means, above the definition of reading.
-use Rattle.std.specs.Prelude.{◌≡◌, ℕ, ◌+◌, ◌<◌, Bool, true, false, not, ◌||◌, ◌⊎◌, if◌then◌else◌, List, [], ◌∷◌, ◌++◌, length, Option, Some, None, is_none, Ok, ◌==◌}
+use Rattle.std.specs.Prelude.{◌≡◌, ℕ, ◌+◌, ◌<◌, Bool, true, false, not, ◌||◌, ◌⊎◌, if◌then◌else◌}
+use Rattle.std.specs.Prelude.{List, [], ◌∷◌, ◌++◌, length, Option, Some, None, is_none, Ok, ◌==◌}
 use Rattle.pg_files.specs.Prelude.{list_all, Bytes, lines, words, reading, IsLeast}
 use Rattle.pg_files.specs.declared.limits.TheConstants.{MAX_GAME_BYTES}
 use Rattle.pg_files.specs.Key.{key_of}
-use Rattle.pg_files.specs.GameFile.{Draft, nothing, after, keyed_faults, first, rest, is_header, is_printable, begins_comment}
+use Rattle.pg_files.specs.GameFile.{Draft, nothing, after, keyed_faults, first, rest, is_header}
+use Rattle.pg_files.specs.GameFile.{is_printable, begins_comment}
 use Rattle.pg_files.specs.declared.fault.Fault.{Fault}
 use Rattle.pg_files.specs.declared.fault.Fault.TheVariants as faults
 use Rattle.pg_files.specs.declared.key.Key.{Key}

@@ -1,5 +1,6 @@
 -- The printed text of a game.
-use Rattle.std.specs.Prelude.{ℕ, nat_lt, if◌then◌else◌, List, [], ◌∷◌, ◌++◌, map, codes, Option, Some, None}
+use Rattle.std.specs.Prelude.{ℕ, nat_lt, if◌then◌else◌, List, [], ◌∷◌, ◌++◌, map, codes, Option}
+use Rattle.std.specs.Prelude.{Some, None}
 use Rattle.pg_files.specs.Prelude.{flat_map, decimal, FinSet, nat_cmp, Grid, Side, Field}
 use Rattle.pg_game.specs.declared.field.Field.TheVariants as fields
 use Rattle.pg_files.specs.Prelude.{Bytes, spelled, members, kind_word, side_word}

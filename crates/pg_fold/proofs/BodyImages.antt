@@ -1,15 +1,29 @@
 -- What a sound node's body owes, its image owes to the image of the position.
-use Rattle.std.proofs.Common.{◌≡◌, ℕ, ◌<◌, true, List, Some, map, refl, sym, ap, ◌∙◌, subst, inl, inr, slice_get}
-use Rattle.pg_fold.proofs.Common.{cases_Bool, false≢true, FinSet, contains, Contains, nat_cmp, AreBelow, Goal, Side, position_of, is_allowed, shows_trees, shows_cuts, NamesEarlier, IsNodeOf, FollowsMove, FollowMoves, HasTurn, TakesFree, EndsRight, PotentialFits, HasPairs, HasPotential, HasTrees, HasCuts, HasThreat, HasWeaker, Body, Over, Move, Pairs, Potential, Trees, Cuts, Threat, Weaker, Node, Reply, point_count, free_points, is_over, IsPosition, is_free, Game, Position, Fits, board_of, image_on, image_set, reverse_of, GridMap, Contains-map, PotentialHolds-image, AvoiderHolds-image, over-image, outcome-image, image_set-has, image_set-below, image_position-stays, replies-image, IsNoWorse-image, IsReplyImage, AreReplyImages, IsBodyImage}
+use Rattle.std.proofs.Common.{◌≡◌, ℕ, ◌<◌, true, List, Some, map, refl, sym, ap, ◌∙◌, subst, inl}
+use Rattle.std.proofs.Common.{inr, slice_get}
+use Rattle.pg_fold.proofs.Common.{cases_Bool, false≢true, FinSet, contains, Contains, nat_cmp}
+use Rattle.pg_fold.proofs.Common.{AreBelow, Goal, Side, position_of, is_allowed, shows_trees}
+use Rattle.pg_fold.proofs.Common.{shows_cuts, NamesEarlier, IsNodeOf, FollowsMove, FollowMoves}
+use Rattle.pg_fold.proofs.Common.{HasTurn, TakesFree, EndsRight, PotentialFits, HasPairs}
+use Rattle.pg_fold.proofs.Common.{HasPotential, HasTrees, HasCuts, HasThreat, HasWeaker, Body, Over}
+use Rattle.pg_fold.proofs.Common.{Move, Pairs, Potential, Trees, Cuts, Threat, Weaker, Node, Reply}
+use Rattle.pg_fold.proofs.Common.{point_count, free_points, is_over, IsPosition, is_free, Game}
+use Rattle.pg_fold.proofs.Common.{Position, Fits, board_of, image_on, image_set, reverse_of}
+use Rattle.pg_fold.proofs.Common.{GridMap, Contains-map, PotentialHolds-image, AvoiderHolds-image}
+use Rattle.pg_fold.proofs.Common.{over-image, outcome-image, image_set-has, image_set-below}
+use Rattle.pg_fold.proofs.Common.{image_position-stays, replies-image, IsNoWorse-image}
+use Rattle.pg_fold.proofs.Common.{IsReplyImage, AreReplyImages, IsBodyImage}
 use Rattle.std.proofs.lemmas.List.Sorted.{All-permutation, IsPermutation-map}
 use Rattle.std.specs.List.{All as Each}
 use Rattle.std.specs.List.Sorted.{IsPermutation}
 use Rattle.pg_base.specs.WordLemmas.{same_points}
 use Rattle.pg_base.specs.declared.kind.Kind.{Kind}
-use Rattle.pg_base.specs.declared.kind.Kind.TheVariants.{MakerBreaker, MakerMaker, AvoiderEnforcer, Switching}
+use Rattle.pg_base.specs.declared.kind.Kind.TheVariants.{MakerBreaker, MakerMaker, AvoiderEnforcer}
+use Rattle.pg_base.specs.declared.kind.Kind.TheVariants.{Switching}
 use Rattle.pg_cert.specs.declared.node.Body.TheVariants.{All}
 use Rattle.pg_fold.proofs.Listing.{zip_all, zip_map, pairs-map, map-map}
-use Rattle.pg_fold.proofs.Positions.{points_by, image_by, onto, image-of, image-is, image-after, image-free}
+use Rattle.pg_fold.proofs.Positions.{points_by, image_by, onto, image-of, image-is, image-after}
+use Rattle.pg_fold.proofs.Positions.{image-free}
 use Rattle.pg_game.specs.Fit.{is_graph, is_switching}
 use Rattle.pg_game.specs.Value.{reaches}
 use Rattle.pg_game.specs.declared.field.Field.{Field}

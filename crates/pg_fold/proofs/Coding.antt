@@ -1,6 +1,8 @@
 -- Marks of the positions that are known.
-use Rattle.std.proofs.Common.{◌≡◌, ℕ, ◌<◌, Bool, true, false, cond, List, Option, Some, None, length, set, refl, sym, ap, ◌∙◌, subst, inl, inr, arith, slice_get}
-use Rattle.pg_fold.proofs.Common.{cases_Bool, cond-false, false≢true, length-set, get, same_some, equal_positions, equal_positions-decides, Position}
+use Rattle.std.proofs.Common.{◌≡◌, ℕ, ◌<◌, Bool, true, false, cond, List, Option, Some, None}
+use Rattle.std.proofs.Common.{length, set, refl, sym, ap, ◌∙◌, subst, inl, inr, arith, slice_get}
+use Rattle.pg_fold.proofs.Common.{cases_Bool, cond-false, false≢true, length-set, get, same_some}
+use Rattle.pg_fold.proofs.Common.{equal_positions, equal_positions-decides, Position}
 use Rattle.pg_fold.specs.Codes.{IsKnown, place_of}
 use Rattle.pg_fold.specs.declared.known.Known.{Known}
 use Rattle.pg_unfold.proofs.Marking.{kept_set, marked_set}

@@ -1,6 +1,14 @@
 -- Copies of the nodes of a folded claim: where they settle, and the order of their places.
-use Rattle.std.proofs.Common.{◌≡◌, ℕ, zero, suc, ◌+◌, ◌<◌, ◌≤◌, ◌⊎◌, List, Some, length, refl, sym, ap, ◌∙◌, subst, inl, inr, arith, slice_get}
-use Rattle.pg_fold.proofs.Common.{cases_lt, cases_eq, slice_get_within, AllZip, one_at, at_contains, contains_at, IsClaim, IsNode, position_of, NamesEarlier, IsNodeOf, IsValidClaim, Claim, Body, Over, Move, Pairs, Potential, Trees, Cuts, Threat, Weaker, Node, Reply, Game, IsPosition, ImageClaim, ImageNode, Plain, Image, identity, followed_by, Fits, board_of, GridMap, Fits-followed, Fits-identity, Contains-map-from, Copy, IsPlain, NamesChild, StandsFor, LeadsTo, IsAt, IsMetBy, IsMet, SettlesBy, ComesBefore, AreCopies, IsPlaced, IsCopied}
+use Rattle.std.proofs.Common.{◌≡◌, ℕ, zero, suc, ◌+◌, ◌<◌, ◌≤◌, ◌⊎◌, List, Some, length, refl, sym}
+use Rattle.std.proofs.Common.{ap, ◌∙◌, subst, inl, inr, arith, slice_get}
+use Rattle.pg_fold.proofs.Common.{cases_lt, cases_eq, slice_get_within, AllZip, one_at, at_contains}
+use Rattle.pg_fold.proofs.Common.{contains_at, IsClaim, IsNode, position_of, NamesEarlier, IsNodeOf}
+use Rattle.pg_fold.proofs.Common.{IsValidClaim, Claim, Body, Over, Move, Pairs, Potential, Trees}
+use Rattle.pg_fold.proofs.Common.{Cuts, Threat, Weaker, Node, Reply, Game, IsPosition, ImageClaim}
+use Rattle.pg_fold.proofs.Common.{ImageNode, Plain, Image, identity, followed_by, Fits, board_of}
+use Rattle.pg_fold.proofs.Common.{GridMap, Fits-followed, Fits-identity, Contains-map-from, Copy}
+use Rattle.pg_fold.proofs.Common.{IsPlain, NamesChild, StandsFor, LeadsTo, IsAt, IsMetBy, IsMet}
+use Rattle.pg_fold.proofs.Common.{SettlesBy, ComesBefore, AreCopies, IsPlaced, IsCopied}
 use Rattle.pg_cert.specs.declared.node.Body.TheVariants.{All}
 use Rattle.pg_cert.specs.declared.node_fault.NodeFault.TheVariants as faults
 use Rattle.pg_fold.specs.Folded.{BecomesNode, IsFoldedClaim}

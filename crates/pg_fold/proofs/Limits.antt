@@ -1,6 +1,13 @@
 -- Folded certificates are within the limits of the format, and more of what folding does.
-use Rattle.std.proofs.Common.{◌≡◌, ℕ, ◌<◌, ◌≤◌, List, Some, None, length, get_or, sym, ap, ◌∙◌, subst, inl, inr, arith, slice_get}
-use Rattle.pg_fold.proofs.Common.{cases_lt, cases_eq, slice_get-get_or, AllZip, sum_by, one_at, some≢none, IsNode, IsClaim, IsWithinLimits, node_count, position_of, IsValidClaim, Cert, Claim, Node, Game, Position, IsMarked, IsImageNode, IsImageClaim, IsImageWithinLimits, image_node_count, image_node_position, ImageCert, ImageClaim, ImageNode, Plain, Image, reverse_of, board_of, GridMap, Fits-reverse, sum-through, IsUsable}
+use Rattle.std.proofs.Common.{◌≡◌, ℕ, ◌<◌, ◌≤◌, List, Some, None, length, get_or, sym, ap, ◌∙◌}
+use Rattle.std.proofs.Common.{subst, inl, inr, arith, slice_get}
+use Rattle.pg_fold.proofs.Common.{cases_lt, cases_eq, slice_get-get_or, AllZip, sum_by, one_at}
+use Rattle.pg_fold.proofs.Common.{some≢none, IsNode, IsClaim, IsWithinLimits, node_count}
+use Rattle.pg_fold.proofs.Common.{position_of, IsValidClaim, Cert, Claim, Node, Game, Position}
+use Rattle.pg_fold.proofs.Common.{IsMarked, IsImageNode, IsImageClaim, IsImageWithinLimits}
+use Rattle.pg_fold.proofs.Common.{image_node_count, image_node_position, ImageCert, ImageClaim}
+use Rattle.pg_fold.proofs.Common.{ImageNode, Plain, Image, reverse_of, board_of, GridMap}
+use Rattle.pg_fold.proofs.Common.{Fits-reverse, sum-through, IsUsable}
 use Rattle.pg_cert.specs.declared.limits.TheConstants.{MAX_CLAIM_NODES, MAX_CLAIMS, MAX_NODES}
 use Rattle.pg_fold.specs.Folded.{BecomesNode, IsFoldedClaim, IsFolded}
 use Rattle.pg_fold.proofs.Copies.{at_position, source, plain_source}

@@ -1,6 +1,9 @@
 -- What stands at the places of two lists that agree place by place, and of a list in order.
-use Rattle.std.proofs.Common.{◌≡◌, ℕ, zero, suc, ◌<◌, List, [], ◌∷◌, Some, map, length, get_or, refl, ap, subst, arith, slice_get}
-use Rattle.pg_fold.proofs.Common.{All-nil, All-head, All-tail, All-cons, All-map, none-some, slice_get_within, get_or_from_slice_get, All, AllPairs, AllZip, same_some}
+use Rattle.std.proofs.Common.{◌≡◌, ℕ, zero, suc, ◌<◌, List, [], ◌∷◌, Some, map, length, get_or}
+use Rattle.std.proofs.Common.{refl, ap, subst, arith, slice_get}
+use Rattle.pg_fold.proofs.Common.{All-nil, All-head, All-tail, All-cons, All-map, none-some}
+use Rattle.pg_fold.proofs.Common.{slice_get_within, get_or_from_slice_get, All, AllPairs, AllZip}
+use Rattle.pg_fold.proofs.Common.{same_some}
 use Rattle.std.proofs.lemmas.List.Kept.{AllPairs-cons}
 
 -- what is so of all members is so of one

@@ -1,7 +1,16 @@
 -- What tables of maps tell.
-use Rattle.std.proofs.Common.{◌≡◌, ◌↔◌, ℕ, zero, suc, ◌*◌, ◌<◌, ◌≤◌, List, [], ◌∷◌, ◌++◌, map, get_or, Option, Some, None, refl, sym, ap, ap₂, ◌∙◌, subst, inl, inr, arith, slice_get}
-use Rattle.pg_fold.proofs.Common.{cases_lt, get_or_past, map_push, All-nil, All-cons, All-push, get_or-map-range_with_len, length-map-range_with_len, FinSet, from_list, All, AllByRecursion, AllPairs, Contains, range_with_len, nat_cmp, members, Grid, Game, Position, IsMapOf, image_of, number_of, reverse_of, Fits, IsMapOn, board_of, image_position, GridMap, image-beyond, points_below-small, at_contains, same_some, none-some, slice_get-get_or}
-use Rattle.pg_fold.specs.Tables.{AreOrdered, AreTables, AreTablesOf, AreTablesOn, IsTable, come_from, image_before, maps_of}
+use Rattle.std.proofs.Common.{◌≡◌, ◌↔◌, ℕ, zero, suc, ◌*◌, ◌<◌, ◌≤◌, List, [], ◌∷◌, ◌++◌, map}
+use Rattle.std.proofs.Common.{get_or, Option, Some, None, refl, sym, ap, ap₂, ◌∙◌, subst, inl, inr}
+use Rattle.std.proofs.Common.{arith, slice_get}
+use Rattle.pg_fold.proofs.Common.{cases_lt, get_or_past, map_push, All-nil, All-cons, All-push}
+use Rattle.pg_fold.proofs.Common.{get_or-map-range_with_len, length-map-range_with_len, FinSet}
+use Rattle.pg_fold.proofs.Common.{from_list, All, AllByRecursion, AllPairs, Contains}
+use Rattle.pg_fold.proofs.Common.{range_with_len, nat_cmp, members, Grid, Game, Position, IsMapOf}
+use Rattle.pg_fold.proofs.Common.{image_of, number_of, reverse_of, Fits, IsMapOn, board_of}
+use Rattle.pg_fold.proofs.Common.{image_position, GridMap, image-beyond, points_below-small}
+use Rattle.pg_fold.proofs.Common.{at_contains, same_some, none-some, slice_get-get_or}
+use Rattle.pg_fold.specs.Tables.{AreOrdered, AreTables, AreTablesOf, AreTablesOn, IsTable}
+use Rattle.pg_fold.specs.Tables.{come_from, image_before, maps_of}
 use Rattle.pg_fold.specs.declared.marks.Marks.{Marks}
 use Rattle.pg_fold.specs.declared.tables.MapTable.{MapTable}
 

@@ -1,8 +1,17 @@
 -- The first known node of which another is the image.
-use Rattle.std.proofs.Common.{◌≡◌, ℕ, ◌+◌, ◌<◌, ◌≤◌, ◌⊎◌, Bool, true, false, List, [], ◌∷◌, ◌++◌, Option, Some, None, length, take, get_or, refl, sym, ap, ◌∙◌, subst, subst₂, inl, inr, arith, slice_get, nat_le, if◌then◌else◌}
-use Rattle.pg_fold.proofs.Common.{cases_Bool, cases_lt, leb-true, leb-false, take_more, slice_get_within, get_or_from_slice_get, All-nil, All, AllPairs, Contains, contains_push, contains_old, at_contains, at_new, contains_at, from_take, same_some, some≢none, Grid, position_of, IsPosition, Game, Position, ImageNode, image_of, number_of, reverse_of, Fits, board_of, image_on, image_position, GridMap, Fits-reverse}
+use Rattle.std.proofs.Common.{◌≡◌, ℕ, ◌+◌, ◌<◌, ◌≤◌, ◌⊎◌, Bool, true, false, List, [], ◌∷◌, ◌++◌}
+use Rattle.std.proofs.Common.{Option, Some, None, length, take, get_or, refl, sym, ap, ◌∙◌, subst}
+use Rattle.std.proofs.Common.{subst₂, inl, inr, arith, slice_get, nat_le, if◌then◌else◌}
+use Rattle.pg_fold.proofs.Common.{cases_Bool, cases_lt, leb-true, leb-false, take_more}
+use Rattle.pg_fold.proofs.Common.{slice_get_within, get_or_from_slice_get, All-nil, All, AllPairs}
+use Rattle.pg_fold.proofs.Common.{Contains, contains_push, contains_old, at_contains, at_new}
+use Rattle.pg_fold.proofs.Common.{contains_at, from_take, same_some, some≢none, Grid, position_of}
+use Rattle.pg_fold.proofs.Common.{IsPosition, Game, Position, ImageNode, image_of, number_of}
+use Rattle.pg_fold.proofs.Common.{reverse_of, Fits, board_of, image_on, image_position, GridMap}
+use Rattle.pg_fold.proofs.Common.{Fits-reverse}
 use Rattle.pg_fold.specs.Folded.{IsImageOf}
-use Rattle.pg_fold.specs.Places.{IsNoEarlier, IsEarliest, ArePlaced, HavePositions, IsFirstOriginal, earlier}
+use Rattle.pg_fold.specs.Places.{IsNoEarlier, IsEarliest, ArePlaced, HavePositions, IsFirstOriginal}
+use Rattle.pg_fold.specs.Places.{earlier}
 use Rattle.pg_fold.specs.Tables.{AreTables, IsTable, maps_of}
 use Rattle.pg_fold.specs.declared.original.Original.{Original}
 use Rattle.pg_fold.specs.declared.tables.MapTable.{MapTable}

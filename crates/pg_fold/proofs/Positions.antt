@@ -1,6 +1,14 @@
 -- Images of positions of a game under maps of its board that fit.
-use Rattle.std.proofs.Common.{◌≡◌, ℕ, ◌<◌, true, Option, Some, None, refl, sym, ap, ◌∙◌, subst, arith}
-use Rattle.pg_fold.proofs.Common.{contains, Grid, Side, IsTurn, IsNode, position_of, IsInGame, Node, Game, Position, point_count, after, IsPosition, is_free, identity, followed_by, reverse_of, IsAutomorphism, Fits, IsImage, IsMapOn, board_of, image_on, image_position, GridMap, IsAutomorphism-fits, Fits-followed, Fits-identity, Fits-reverse, image_on-identity, IsImage-after, free-image, IsImage-position, IsPosition-image, IsImage-unique, IsImage-further, IsImage-undone, image_position-stays, image-followed}
+use Rattle.std.proofs.Common.{◌≡◌, ℕ, ◌<◌, true, Option, Some, None, refl, sym, ap, ◌∙◌, subst}
+use Rattle.std.proofs.Common.{arith}
+use Rattle.pg_fold.proofs.Common.{contains, Grid, Side, IsTurn, IsNode, position_of, IsInGame, Node}
+use Rattle.pg_fold.proofs.Common.{Game, Position, point_count, after, IsPosition, is_free, identity}
+use Rattle.pg_fold.proofs.Common.{followed_by, reverse_of, IsAutomorphism, Fits, IsImage, IsMapOn}
+use Rattle.pg_fold.proofs.Common.{board_of, image_on, image_position, GridMap, IsAutomorphism-fits}
+use Rattle.pg_fold.proofs.Common.{Fits-followed, Fits-identity, Fits-reverse, image_on-identity}
+use Rattle.pg_fold.proofs.Common.{IsImage-after, free-image, IsImage-position, IsPosition-image}
+use Rattle.pg_fold.proofs.Common.{IsImage-unique, IsImage-further, IsImage-undone}
+use Rattle.pg_fold.proofs.Common.{image_position-stays, image-followed}
 use Rattle.pg_base.specs.declared.side.Side.TheVariants.{X, Y}
 use Rattle.pg_game.proofs.Moves.{IsPosition-after}
 

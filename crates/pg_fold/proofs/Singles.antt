@@ -1,6 +1,8 @@
 -- Claims of one node.
-use Rattle.std.proofs.Common.{◌≡◌, ℕ, zero, suc, List, [], ◌∷◌, Some, length, get_or, refl, sym, ap, ◌∙◌, subst, arith, slice_get}
-use Rattle.pg_fold.proofs.Common.{none-some, slice_get-get_or, AllZip, same_some, IsValid, Cert, Claim, Node, Game, ImageClaim, ImageNode, Plain}
+use Rattle.std.proofs.Common.{◌≡◌, ℕ, zero, suc, List, [], ◌∷◌, Some, length, get_or, refl, sym, ap}
+use Rattle.std.proofs.Common.{◌∙◌, subst, arith, slice_get}
+use Rattle.pg_fold.proofs.Common.{none-some, slice_get-get_or, AllZip, same_some, IsValid, Cert}
+use Rattle.pg_fold.proofs.Common.{Claim, Node, Game, ImageClaim, ImageNode, Plain}
 use Rattle.pg_fold.specs.Folded.{DifferInPosition, IsFoldedAt, IsFoldedClaim}
 use Rattle.pg_fold.specs.Places.{AreFoldable, Stays}
 

@@ -1,13 +1,25 @@
 -- The claims that folded claims stand for are valid, and no node of a folded claim is faulty.
-use Rattle.std.proofs.Common.{◌≡◌, ℕ, zero, suc, ◌+◌, ◌-◌, ◌<◌, true, List, get_or, [], ◌∷◌, Some, length, refl, sym, ap, ◌∙◌, subst, arith, slice_get}
-use Rattle.pg_fold.proofs.Common.{none-some, slice_get-get_or, AllZip, same_some, one_at, at_contains, Side, Goal, IsClaim, IsWithinLimits, position_of, is_allowed, NamesEarlier, IsNodeOf, FollowMoves, HasTurn, TakesFree, EndsRight, HasPairs, HasPotential, HasTrees, HasCuts, HasThreat, HasWeaker, IsOwed, Passes, IsValidClaim, IsValid, Cert, Claim, Node, with_turn, IsPosition, Game, Position, ImageCert, ImageClaim, Plain, Image, Fits, board_of, GridMap, Copy, IsSoundClaim, AreSound, IsBodyImage, BecomesUnder, IsCopied, IsUnfolded, AreUnfolded, IsUnfoldedCert}
+use Rattle.std.proofs.Common.{◌≡◌, ℕ, zero, suc, ◌+◌, ◌-◌, ◌<◌, true, List, get_or, [], ◌∷◌, Some}
+use Rattle.std.proofs.Common.{length, refl, sym, ap, ◌∙◌, subst, arith, slice_get}
+use Rattle.pg_fold.proofs.Common.{none-some, slice_get-get_or, AllZip, same_some, one_at}
+use Rattle.pg_fold.proofs.Common.{at_contains, Side, Goal, IsClaim, IsWithinLimits, position_of}
+use Rattle.pg_fold.proofs.Common.{is_allowed, NamesEarlier, IsNodeOf, FollowMoves, HasTurn}
+use Rattle.pg_fold.proofs.Common.{TakesFree, EndsRight, HasPairs, HasPotential, HasTrees, HasCuts}
+use Rattle.pg_fold.proofs.Common.{HasThreat, HasWeaker, IsOwed, Passes, IsValidClaim, IsValid, Cert}
+use Rattle.pg_fold.proofs.Common.{Claim, Node, with_turn, IsPosition, Game, Position, ImageCert}
+use Rattle.pg_fold.proofs.Common.{ImageClaim, Plain, Image, Fits, board_of, GridMap, Copy}
+use Rattle.pg_fold.proofs.Common.{IsSoundClaim, AreSound, IsBodyImage, BecomesUnder, IsCopied}
+use Rattle.pg_fold.proofs.Common.{IsUnfolded, AreUnfolded, IsUnfoldedCert}
 use Rattle.pg_cert.specs.declared.node_fault.NodeFault.{NodeFault}
 use Rattle.pg_cert.specs.declared.node_fault.NodeFault.TheVariants as faults
 use Rattle.pg_fold.specs.Folded.{IsFoldedClaim, IsFolded, IsSameClaim}
 use Rattle.pg_fold.proofs.Listing.{all_at, within_at, zip_left, zip_length, zip_all}
 use Rattle.pg_fold.proofs.Positions.{points_by, image_by, image-is, image-identity}
-use Rattle.pg_fold.proofs.Copies.{at_position, source, plain_source, met-fits, last_copy, last-place, child-placed}
-use Rattle.pg_fold.proofs.BodyImages.{allowed-image, earlier-image, turn-image, free-taken, ends-image, pairs-hold, potential-holds, threat-holds, trees-hold, cuts-hold, follow-moves, weaker-holds}
+use Rattle.pg_fold.proofs.Copies.{at_position, source, plain_source, met-fits, last_copy}
+use Rattle.pg_fold.proofs.Copies.{last-place, child-placed}
+use Rattle.pg_fold.proofs.BodyImages.{allowed-image, earlier-image, turn-image, free-taken}
+use Rattle.pg_fold.proofs.BodyImages.{ends-image, pairs-hold, potential-holds, threat-holds}
+use Rattle.pg_fold.proofs.BodyImages.{trees-hold, cuts-hold, follow-moves, weaker-holds}
 use Rattle.pg_unfold.specs.declared.flaw.Flaw.TheVariants as flaws
 use Rattle.pg_unfold.specs.declared.unfolded.Unfolded.{Unfolded}
 

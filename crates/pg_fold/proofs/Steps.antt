@@ -1,9 +1,18 @@
 -- One node more is folded.
-use Rattle.std.proofs.Common.{◌≡◌, ℕ, ◌+◌, ◌<◌, ◌⊎◌, cond, List, [], ◌∷◌, ◌++◌, Option, Some, None, length, take, get_or, refl, sym, ap, ◌∙◌, subst, subst₂, inl, inr, arith, slice_get, Result, Ok, Err, OnOk}
-use Rattle.pg_fold.proofs.Common.{cases_Bool, cond-true, cond-false, length_push, take_more, slice_get_within, get_or_from_slice_get, at_old, at_new, at_push, from_take, one_at, same_some, some≢none, IsClaim, IsNode, position_of, IsValidClaim, Claim, Node, IsPosition, equal_positions, equal_positions-decides, Game, Position, ImageNode, Plain, Image, GridMap}
+use Rattle.std.proofs.Common.{◌≡◌, ℕ, ◌+◌, ◌<◌, ◌⊎◌, cond, List, [], ◌∷◌, ◌++◌, Option, Some, None}
+use Rattle.std.proofs.Common.{length, take, get_or, refl, sym, ap, ◌∙◌, subst, subst₂, inl, inr}
+use Rattle.std.proofs.Common.{arith, slice_get, Result, Ok, Err, OnOk}
+use Rattle.pg_fold.proofs.Common.{cases_Bool, cond-true, cond-false, length_push, take_more}
+use Rattle.pg_fold.proofs.Common.{slice_get_within, get_or_from_slice_get, at_old, at_new, at_push}
+use Rattle.pg_fold.proofs.Common.{from_take, one_at, same_some, some≢none, IsClaim, IsNode}
+use Rattle.pg_fold.proofs.Common.{position_of, IsValidClaim, Claim, Node, IsPosition}
+use Rattle.pg_fold.proofs.Common.{equal_positions, equal_positions-decides, Game, Position}
+use Rattle.pg_fold.proofs.Common.{ImageNode, Plain, Image, GridMap}
 use Rattle.pg_cert.specs.declared.node_fault.NodeFault.TheVariants as faults
-use Rattle.pg_fold.specs.Folded.{IsImageOf, BecomesNode, IsFoldedAt, IsFoldedClaim, HaveDifferentPositions}
-use Rattle.pg_fold.specs.Places.{AreAllFolded, AreFolded, ArePlaced, HaveDifferent, HavePositions, IsFirstOriginal}
+use Rattle.pg_fold.specs.Folded.{IsImageOf, BecomesNode, IsFoldedAt, IsFoldedClaim}
+use Rattle.pg_fold.specs.Folded.{HaveDifferentPositions}
+use Rattle.pg_fold.specs.Places.{AreAllFolded, AreFolded, ArePlaced, HaveDifferent, HavePositions}
+use Rattle.pg_fold.specs.Places.{IsFirstOriginal}
 use Rattle.pg_fold.specs.declared.original.Original.{Original}
 use Rattle.pg_fold.proofs.Listing.{all_at, within_at}
 use Rattle.pg_fold.proofs.Positions.{node-position}

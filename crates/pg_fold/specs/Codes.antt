@@ -1,5 +1,6 @@
 -- Codes of positions, by which most of those that aren't known are told at once.
-use Rattle.std.specs.Prelude.{◌≡◌, ℕ, zero, suc, ◌+◌, ◌*◌, ◌%◌, ◌^◌, ◌<◌, true, length, get_or, slice_get, Some}
+use Rattle.std.specs.Prelude.{◌≡◌, ℕ, zero, suc, ◌+◌, ◌*◌, ◌%◌, ◌^◌, ◌<◌, true, length, get_or}
+use Rattle.std.specs.Prelude.{slice_get, Some}
 use Rattle.pg_fold.specs.Prelude.{get, equal_positions, Position}
 use Rattle.pg_base.specs.Words.{words_of}
 use Rattle.pg_fold.specs.declared.known.Known.{Known}

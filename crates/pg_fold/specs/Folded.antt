@@ -1,7 +1,10 @@
 -- A certificate folded: a node whose position is the image of an earlier plain node's is said as
 -- the image of that node.
 use Rattle.std.specs.Prelude.{◌≡◌, ℕ, ◌<◌, ◌≤◌, ◌⊎◌, List, length, slice_get, Some}
-use Rattle.pg_fold.specs.Prelude.{AllZip, position_of, Cert, Claim, Node, Game, Position, image_node_position, ImageCert, ImageClaim, ImageNode, Plain, Image, number_of, board_of, image_on, image_position, GridMap, IsUsable}
+use Rattle.pg_fold.specs.Prelude.{AllZip, position_of, Cert, Claim, Node, Game, Position}
+use Rattle.pg_fold.specs.Prelude.{image_node_position, ImageCert, ImageClaim, ImageNode, Plain}
+use Rattle.pg_fold.specs.Prelude.{Image, number_of, board_of, image_on, image_position, GridMap}
+use Rattle.pg_fold.specs.Prelude.{IsUsable}
 
 -- node number j is plain, and the position is the image of its position under the map, which fits
 -- the game's board

@@ -1,6 +1,8 @@
 -- Which plain nodes there are so far, by their positions.
-use Rattle.std.specs.Prelude.{◌≡◌, ℕ, ◌<◌, ◌≤◌, ◌⊎◌, List, [], ◌∷◌, length, slice_get, Option, Some, None, nat_le, if◌then◌else◌}
-use Rattle.pg_fold.specs.Prelude.{All, Contains, position_of, IsValidClaim, Claim, Node, IsPosition, Game, Position, ImageClaim, ImageNode, Plain, number_of, GridMap}
+use Rattle.std.specs.Prelude.{◌≡◌, ℕ, ◌<◌, ◌≤◌, ◌⊎◌, List, [], ◌∷◌, length, slice_get, Option, Some}
+use Rattle.std.specs.Prelude.{None, nat_le, if◌then◌else◌}
+use Rattle.pg_fold.specs.Prelude.{All, Contains, position_of, IsValidClaim, Claim, Node, IsPosition}
+use Rattle.pg_fold.specs.Prelude.{Game, Position, ImageClaim, ImageNode, Plain, number_of, GridMap}
 use Rattle.pg_fold.specs.Folded.{IsImageOf, IsFoldedAt, HaveDifferentPositions}
 use Rattle.pg_fold.specs.declared.original.Original.{Original}
 

@@ -1,6 +1,8 @@
 -- Maps of a board as tables, and the positions that they lead back to.
 use Rattle.std.specs.Prelude.{◌≡◌, ℕ, ◌↔◌, ◌<◌, ◌*◌, List, [], map, get_or, None, Some}
-use Rattle.pg_fold.specs.Prelude.{from_list, All, AllPairs, Contains, range_with_len, Grid, MAX_MEMBERS, Game, Position, IsMapOf, image_of, number_of, reverse_of, Fits, board_of, GridMap}
+use Rattle.pg_fold.specs.Prelude.{from_list, All, AllPairs, Contains, range_with_len, Grid}
+use Rattle.pg_fold.specs.Prelude.{MAX_MEMBERS, Game, Position, IsMapOf, image_of, number_of}
+use Rattle.pg_fold.specs.Prelude.{reverse_of, Fits, board_of, GridMap}
 use Rattle.pg_fold.specs.declared.marks.Marks.{Marks}
 use Rattle.pg_fold.specs.declared.tables.MapTable.{MapTable}
 

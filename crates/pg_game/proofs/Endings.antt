@@ -1,13 +1,20 @@
 -- The end of a Maker-Breaker game in two positions of which one is no worse for a side.
-use Rattle.std.proofs.Common.{◌≡◌, ℕ, ◌<◌, Bool, true, false, not, ◌&&◌, ◌||◌, List, [], ◌∷◌, refl, sym, ap, ap₂, ◌∙◌, inl, inr, ◌⊎◌}
-use Rattle.pg_game.proofs.Common.{cases_Bool, and_from, or_cases, or_left, or_right, false≢true, both_ways, All-contains, list_any, list_all, All, Contains, FinSet, contains, nat_cmp, Goal, Win, Kind, MakerBreaker, Score, XWins, YWins, Side, X, Y, AreWithin}
+use Rattle.std.proofs.Common.{◌≡◌, ℕ, ◌<◌, Bool, true, false, not, ◌&&◌, ◌||◌, List, [], ◌∷◌, refl}
+use Rattle.std.proofs.Common.{sym, ap, ap₂, ◌∙◌, inl, inr, ◌⊎◌}
+use Rattle.pg_game.proofs.Common.{cases_Bool, and_from, or_cases, or_left, or_right, false≢true}
+use Rattle.pg_game.proofs.Common.{both_ways, All-contains, list_any, list_all, All, Contains}
+use Rattle.pg_game.proofs.Common.{FinSet, contains, nat_cmp, Goal, Win, Kind, MakerBreaker, Score}
+use Rattle.pg_game.proofs.Common.{XWins, YWins, Side, X, Y, AreWithin}
 use Rattle.pg_base.specs.declared.goal.Goal.TheVariants.{Draw as AtLeastDraw}
 use Rattle.pg_game.specs.declared.game.Game.{Game}
 use Rattle.pg_game.specs.declared.position.Position.{Position}
-use Rattle.pg_game.specs.Game.{point_count, lines_of, is_filled, is_touched, has_filled, all_touched, is_full, is_over, outcome, is_over_by, outcome_by, short_joins, can_join}
+use Rattle.pg_game.specs.Game.{point_count, lines_of, is_filled, is_touched, has_filled}
+use Rattle.pg_game.specs.Game.{all_touched, is_full, is_over, outcome, is_over_by, outcome_by}
+use Rattle.pg_game.specs.Game.{short_joins, can_join}
 use Rattle.pg_game.specs.Value.{reaches, Forces}
 use Rattle.pg_game.proofs.FreePoints.{none-full}
-use Rattle.pg_game.proofs.Members.{Contains-head, Contains-tail, true-at, false-at, list_any-one, member-from_any}
+use Rattle.pg_game.proofs.Members.{Contains-head, Contains-tail, true-at, false-at, list_any-one}
+use Rattle.pg_game.proofs.Members.{member-from_any}
 use Rattle.pg_game.proofs.Limits.{lines-range}
 use Rattle.pg_game.proofs.ValueLaws.{value-over}
 use Rattle.pg_game.specs.Weaker.{IsNoWorse}

@@ -1,6 +1,11 @@
 -- The free points, before and after a move.
-use Rattle.std.proofs.Common.{◌≡◌, ℕ, zero, suc, ◌+◌, ◌<◌, ◌≤◌, Bool, true, false, not, ◌&&◌, ◌||◌, List, [], ◌∷◌, length, eqb, refl, sym, ap, ◌∙◌, inl, inr, arith, eq-eqb, ne_eqb}
-use Rattle.pg_game.proofs.Common.{and_parts, cases_Bool, cases_eq, and_from, false≢true, or_left, or_right, or_cases, filter_agree, filter, range_with_len, Contains, list_any, list_all, FinSet, contains, nat_cmp, Side, X, Y, in_insert}
+use Rattle.std.proofs.Common.{◌≡◌, ℕ, zero, suc, ◌+◌, ◌<◌, ◌≤◌, Bool, true, false, not, ◌&&◌, ◌||◌}
+use Rattle.std.proofs.Common.{List, [], ◌∷◌, length, eqb, refl, sym, ap, ◌∙◌, inl, inr, arith}
+use Rattle.std.proofs.Common.{eq-eqb, ne_eqb}
+use Rattle.pg_game.proofs.Common.{and_parts, cases_Bool, cases_eq, and_from, false≢true, or_left}
+use Rattle.pg_game.proofs.Common.{or_right, or_cases, filter_agree, filter, range_with_len}
+use Rattle.pg_game.proofs.Common.{Contains, list_any, list_all, FinSet, contains, nat_cmp, Side, X}
+use Rattle.pg_game.proofs.Common.{Y, in_insert}
 use Rattle.pg_game.specs.declared.position.Position.{Position}
 use Rattle.pg_game.specs.Position.{is_free, x_after, y_after}
 use Rattle.std.proofs.lemmas.List.FromFn.{length-range_with_len, get_or-range_with_len}

@@ -1,6 +1,9 @@
 -- The free points as a set.
-use Rattle.std.proofs.Common.{◌≡◌, ℕ, zero, suc, ◌+◌, ◌<◌, Bool, true, false, not, ◌&&◌, ltb, if◌then◌else◌, List, [], ◌∷◌, Some, None, length, refl, sym, ap, ◌∙◌, inl, inr, arith}
-use Rattle.pg_game.proofs.Common.{cases_Bool, and_parts, lt-ltb, ltb-true, is_none, find, FinSet, contains, len, nat_cmp, AreBelow, count, one_if, count_same}
+use Rattle.std.proofs.Common.{◌≡◌, ℕ, zero, suc, ◌+◌, ◌<◌, Bool, true, false, not, ◌&&◌, ltb}
+use Rattle.std.proofs.Common.{if◌then◌else◌, List, [], ◌∷◌, Some, None, length, refl, sym, ap, ◌∙◌}
+use Rattle.std.proofs.Common.{inl, inr, arith}
+use Rattle.pg_game.proofs.Common.{cases_Bool, and_parts, lt-ltb, ltb-true, is_none, find, FinSet}
+use Rattle.pg_game.proofs.Common.{contains, len, nat_cmp, AreBelow, count, one_if, count_same}
 use Rattle.pg_base.proofs.PointSetLaws.{len-count}
 use Rattle.pg_game.specs.declared.game.Game.{Game}
 use Rattle.pg_game.specs.declared.position.Position.{Position}

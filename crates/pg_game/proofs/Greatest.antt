@@ -1,5 +1,7 @@
 -- The greatest of the values of a function at the free points.
-use Rattle.std.proofs.Common.{◌≡◌, ℕ, zero, suc, ◌+◌, ◌<◌, ◌≤◌, max, Bool, true, ◌==◌, nat_lt, List, [], ◌∷◌, map, if◌then◌else◌, eqb-true, eq-eqb, ltb-true, lt-ltb, refl, sym, ap, ◌∙◌, subst, inl, inr, arith}
+use Rattle.std.proofs.Common.{◌≡◌, ℕ, zero, suc, ◌+◌, ◌<◌, ◌≤◌, max, Bool, true, ◌==◌, nat_lt, List}
+use Rattle.std.proofs.Common.{[], ◌∷◌, map, if◌then◌else◌, eqb-true, eq-eqb, ltb-true, lt-ltb, refl}
+use Rattle.std.proofs.Common.{sym, ap, ◌∙◌, subst, inl, inr, arith}
 use Rattle.pg_game.proofs.Common.{cases_lt, cases_eq, cases_Bool, Contains}
 use Rattle.pg_game.specs.declared.game.Game.{Game}
 use Rattle.pg_game.specs.declared.position.Position.{Position}

@@ -1,7 +1,9 @@
 -- One step of a side that imagines a weaker position: its own move, a reply, and a position that is
 -- weaker still.
-use Rattle.std.proofs.Common.{◌≡◌, ℕ, ◌<◌, true, false, List, [], ◌∷◌, unwrap_or, find, refl, sym, ap, ◌∙◌, subst, inl, inr}
-use Rattle.pg_game.proofs.Common.{cases_Bool, false≢true, both_ways, list_any, Contains, Goal, MakerBreaker, Side, other}
+use Rattle.std.proofs.Common.{◌≡◌, ℕ, ◌<◌, true, false, List, [], ◌∷◌, unwrap_or, find, refl, sym}
+use Rattle.std.proofs.Common.{ap, ◌∙◌, subst, inl, inr}
+use Rattle.pg_game.proofs.Common.{cases_Bool, false≢true, both_ways, list_any, Contains, Goal}
+use Rattle.pg_game.proofs.Common.{MakerBreaker, Side, other}
 use Rattle.pg_game.specs.declared.game.Game.{Game}
 use Rattle.pg_game.specs.declared.position.Position.{Position}
 use Rattle.pg_game.specs.Position.{is_free}

@@ -1,5 +1,6 @@
 -- Who takes the last point, before and after a move.
-use Rattle.std.proofs.Common.{◌≡◌, ℕ, ◌+◌, ◌-◌, ◌%◌, ◌<◌, ◌≤◌, true, ◌==◌, nat_lt, nat_eq, eqb-true, eq-eqb, ltb-true, lt-ltb, refl, sym, ap, ◌∙◌, subst, arith}
+use Rattle.std.proofs.Common.{◌≡◌, ℕ, ◌+◌, ◌-◌, ◌%◌, ◌<◌, ◌≤◌, true, ◌==◌, nat_lt, nat_eq, eqb-true}
+use Rattle.std.proofs.Common.{eq-eqb, ltb-true, lt-ltb, refl, sym, ap, ◌∙◌, subst, arith}
 use Rattle.pg_game.proofs.Common.{and_parts, and_from, le-ltb, add-mod_right, zero-mod, X, Y}
 use Rattle.pg_game.specs.Avoider.{x_takes_last}
 

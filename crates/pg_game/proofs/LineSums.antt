@@ -1,11 +1,15 @@
 -- The weights of lines, and their sums with one line more.
-use Rattle.std.proofs.Common.{◌≡◌, ℕ, zero, suc, ◌+◌, ◌-◌, ◌^◌, ◌<◌, ◌≤◌, true, false, if◌then◌else◌, List, [], ◌∷◌, length, get_or, take, refl, ap, ◌∙◌, inl, inr, arith, take_all}
-use Rattle.pg_game.proofs.Common.{cases_Bool, sum_by-cons, sum_by_more_le, count_by, sum_by, Contains, FinSet, nat_cmp}
+use Rattle.std.proofs.Common.{◌≡◌, ℕ, zero, suc, ◌+◌, ◌-◌, ◌^◌, ◌<◌, ◌≤◌, true, false}
+use Rattle.std.proofs.Common.{if◌then◌else◌, List, [], ◌∷◌, length, get_or, take, refl, ap, ◌∙◌}
+use Rattle.std.proofs.Common.{inl, inr, arith, take_all}
+use Rattle.pg_game.proofs.Common.{cases_Bool, sum_by-cons, sum_by_more_le, count_by, sum_by}
+use Rattle.pg_game.proofs.Common.{Contains, FinSet, nat_cmp}
 use Rattle.pg_game.specs.declared.game.Game.{Game}
 use Rattle.pg_game.specs.declared.position.Position.{Position}
 use Rattle.pg_game.specs.Position.{is_free}
 use Rattle.pg_game.specs.Game.{is_touched, lines_of}
-use Rattle.pg_game.specs.Potential.{greatest_length, is_on, line_weight, total_weight, point_weight, full_weight, IsBaseOf}
+use Rattle.pg_game.specs.Potential.{greatest_length, is_on, line_weight, total_weight, point_weight}
+use Rattle.pg_game.specs.Potential.{full_weight, IsBaseOf}
 use Rattle.pg_game.proofs.Members.{Contains-head, Contains-tail}
 use Rattle.pg_game.proofs.WeightBounds.{total-few}
 

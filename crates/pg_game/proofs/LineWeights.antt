@@ -1,13 +1,20 @@
 -- How the weights of lines change with a move.
-use Rattle.std.proofs.Common.{◌≡◌, ℕ, suc, ◌+◌, ◌-◌, ◌*◌, ◌^◌, ◌<◌, ◌≤◌, Bool, true, false, cond, not, ◌&&◌, ◌||◌, ◌==◌, List, [], ◌∷◌, length, eqb, refl, sym, ap, ap₂, ◌∙◌, subst, inl, inr, eq-eqb, ne_eqb, arith, pow-suc, if◌then◌else◌}
-use Rattle.pg_game.proofs.Common.{cases_Bool, cases_eq, false≢true, sum_by-cons, count_by-le-length, get_or-le-sum_by, mul-add, add-mul, mul_comm, list_any, count_by, sum_by, Contains, FinSet, contains, insert, nat_cmp, Side, other, ShareNone, in_insert}
+use Rattle.std.proofs.Common.{◌≡◌, ℕ, suc, ◌+◌, ◌-◌, ◌*◌, ◌^◌, ◌<◌, ◌≤◌, Bool, true, false, cond}
+use Rattle.std.proofs.Common.{not, ◌&&◌, ◌||◌, ◌==◌, List, [], ◌∷◌, length, eqb, refl, sym, ap, ap₂}
+use Rattle.std.proofs.Common.{◌∙◌, subst, inl, inr, eq-eqb, ne_eqb, arith, pow-suc, if◌then◌else◌}
+use Rattle.pg_game.proofs.Common.{cases_Bool, cases_eq, false≢true, sum_by-cons, count_by-le-length}
+use Rattle.pg_game.proofs.Common.{get_or-le-sum_by, mul-add, add-mul, mul_comm, list_any, count_by}
+use Rattle.pg_game.proofs.Common.{sum_by, Contains, FinSet, contains, insert, nat_cmp, Side, other}
+use Rattle.pg_game.proofs.Common.{ShareNone, in_insert}
 use Rattle.pg_base.proofs.LineLemmas.{count-ascending}
 use Rattle.pg_game.specs.declared.game.Game.{Game}
 use Rattle.pg_game.specs.declared.position.Position.{Position}
 use Rattle.pg_game.specs.Position.{is_free, points_of}
 use Rattle.pg_game.specs.Game.{is_touched, is_filled, has_filled, lines_of, after}
-use Rattle.pg_game.specs.Potential.{greatest_length, is_on, line_weight, total_weight, point_weight, full_weight}
-use Rattle.pg_game.proofs.Members.{true-at, false-at, list_any-none, member-from_any, Contains-head, Contains-tail}
+use Rattle.pg_game.specs.Potential.{greatest_length, is_on, line_weight, total_weight, point_weight}
+use Rattle.pg_game.specs.Potential.{full_weight}
+use Rattle.pg_game.proofs.Members.{true-at, false-at, list_any-none, member-from_any, Contains-head}
+use Rattle.pg_game.proofs.Members.{Contains-tail}
 use Rattle.pg_game.proofs.FreePoints.{is_free-after}
 use Rattle.pg_game.proofs.Moves.{free-of, apart}
 use Rattle.pg_game.proofs.LineSums.{sum-le, length-le-greatest}

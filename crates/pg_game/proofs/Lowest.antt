@@ -1,6 +1,8 @@
 -- The first element, the lowest number and the lowest free point that pass a test.
-use Rattle.std.proofs.Common.{◌≡◌, ℕ, zero, suc, ◌+◌, ◌<◌, ◌≤◌, Bool, true, false, ◌&&◌, ◌||◌, List, [], ◌∷◌, Some, None, cond, refl, sym, ap, ◌∙◌, inl, inr, arith}
-use Rattle.pg_game.proofs.Common.{cases_Bool, cases_eq, false≢true, filter, find, list_any, range_with_len, Contains}
+use Rattle.std.proofs.Common.{◌≡◌, ℕ, zero, suc, ◌+◌, ◌<◌, ◌≤◌, Bool, true, false, ◌&&◌, ◌||◌, List}
+use Rattle.std.proofs.Common.{[], ◌∷◌, Some, None, cond, refl, sym, ap, ◌∙◌, inl, inr, arith}
+use Rattle.pg_game.proofs.Common.{cases_Bool, cases_eq, false≢true, filter, find, list_any}
+use Rattle.pg_game.proofs.Common.{range_with_len, Contains}
 use Rattle.pg_game.specs.declared.game.Game.{Game}
 use Rattle.pg_game.specs.declared.position.Position.{Position}
 use Rattle.pg_game.specs.Position.{is_free}

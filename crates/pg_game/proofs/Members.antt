@@ -1,6 +1,9 @@
 -- What holds of the members of a list.
-use Rattle.std.proofs.Common.{◌≡◌, ℕ, zero, suc, ◌<◌, Bool, true, false, ◌&&◌, List, [], ◌∷◌, length, get_or, refl, sym, ap, ◌∙◌, inl, inr, ◌⊎◌, arith, subst₂}
-use Rattle.pg_game.proofs.Common.{get_or_default, Contains-get_or, cases_Bool, cases_order, false≢true, list_any_at, list_all_at, Any-from_list_any, filter, Contains, All, AllPairs, list_any, list_all}
+use Rattle.std.proofs.Common.{◌≡◌, ℕ, zero, suc, ◌<◌, Bool, true, false, ◌&&◌, List, [], ◌∷◌}
+use Rattle.std.proofs.Common.{length, get_or, refl, sym, ap, ◌∙◌, inl, inr, ◌⊎◌, arith, subst₂}
+use Rattle.pg_game.proofs.Common.{get_or_default, Contains-get_or, cases_Bool, cases_order}
+use Rattle.pg_game.proofs.Common.{false≢true, list_any_at, list_all_at, Any-from_list_any, filter}
+use Rattle.pg_game.proofs.Common.{Contains, All, AllPairs, list_any, list_all}
 
 module _ {X : Type 0} where
   pub Contains-head : (x : X) (xs : List X) → Contains (x ∷ xs) x

@@ -1,6 +1,11 @@
 -- What a move changes, and that positions stay positions.
-use Rattle.std.proofs.Common.{◌≡◌, ◌≢◌, ℕ, ◌+◌, ◌<◌, ◌≤◌, true, false, ◌||◌, List, [], ◌∷◌, eqb, refl, sym, ap, ◌∙◌, subst, inl, inr, ◌⊎◌, arith, eq-eqb, ne_eqb, eqb-true}
-use Rattle.pg_game.proofs.Common.{cases_Bool, cases_eq, cases_lt, and_parts, and_from, or_right, or_cases, not-true, not_from_false, false≢true, lt-ltb, le-ltb, FinSet, contains, insert, nat_cmp, ShareNone, Side, X, Y, other, in_insert}
+use Rattle.std.proofs.Common.{◌≡◌, ◌≢◌, ℕ, ◌+◌, ◌<◌, ◌≤◌, true, false, ◌||◌, List, [], ◌∷◌, eqb}
+use Rattle.std.proofs.Common.{refl, sym, ap, ◌∙◌, subst, inl, inr, ◌⊎◌, arith, eq-eqb, ne_eqb}
+use Rattle.std.proofs.Common.{eqb-true}
+use Rattle.pg_game.proofs.Common.{cases_Bool, cases_eq, cases_lt, and_parts, and_from, or_right}
+use Rattle.pg_game.proofs.Common.{or_cases, not-true, not_from_false, false≢true, lt-ltb, le-ltb}
+use Rattle.pg_game.proofs.Common.{FinSet, contains, insert, nat_cmp, ShareNone, Side, X, Y, other}
+use Rattle.pg_game.proofs.Common.{in_insert}
 use Rattle.pg_game.specs.declared.game.Game.{Game}
 use Rattle.pg_game.specs.declared.position.Position.{Position}
 use Rattle.pg_game.specs.Position.{is_free, points_of, claims_in_turn, x_after, y_after}

@@ -1,7 +1,11 @@
 -- In Maker-Breaker a position that is no worse for a side serves it as well: the side imagines the
 -- weaker one and plays there.
-use Rattle.std.proofs.Common.{◌≡◌, ℕ, ◌<◌, ◌-◌, true, false, nat_lt, if◌then◌else◌, refl, sym, ◌∙◌, subst, subst₂, inl, inr, eqb, eqb-true, eq-eqb}
-use Rattle.pg_game.proofs.Common.{cases_Bool, and_from, or_cases, or_left, or_right, false≢true, both_ways, not_from_false, FinSet, contains, insert, nat_cmp, Goal, Win, MakerBreaker, Score, XWins, Draw, YWins, Side, X, Y, AreWithin, other, in_insert}
+use Rattle.std.proofs.Common.{◌≡◌, ℕ, ◌<◌, ◌-◌, true, false, nat_lt, if◌then◌else◌, refl, sym, ◌∙◌}
+use Rattle.std.proofs.Common.{subst, subst₂, inl, inr, eqb, eqb-true, eq-eqb}
+use Rattle.pg_game.proofs.Common.{cases_Bool, and_from, or_cases, or_left, or_right, false≢true}
+use Rattle.pg_game.proofs.Common.{both_ways, not_from_false, FinSet, contains, insert, nat_cmp}
+use Rattle.pg_game.proofs.Common.{Goal, Win, MakerBreaker, Score, XWins, Draw, YWins, Side, X, Y}
+use Rattle.pg_game.proofs.Common.{AreWithin, other, in_insert}
 use Rattle.pg_base.specs.declared.goal.Goal.TheVariants.{Draw as AtLeastDraw}
 use Rattle.pg_game.specs.declared.game.Game.{Game}
 use Rattle.pg_game.specs.declared.position.Position.{Position}

@@ -1,14 +1,17 @@
 -- The results that the code finds kind by kind are those of the rules.
 use Rattle.std.proofs.Common.{◌≡◌, Bool, true, false, not, Some, None, refl, sym, ap, ◌∙◌}
 use Rattle.std.specs.Prelude.{Option, if◌then◌else◌}
-use Rattle.pg_game.proofs.Common.{false≢true, contains, Kind, MakerBreaker, MakerMaker, AvoiderEnforcer, Switching, Score, XWins, YWins, X, Y, IsGraph, Graph}
+use Rattle.pg_game.proofs.Common.{false≢true, contains, Kind, MakerBreaker, MakerMaker}
+use Rattle.pg_game.proofs.Common.{AvoiderEnforcer, Switching, Score, XWins, YWins, X, Y, IsGraph}
+use Rattle.pg_game.proofs.Common.{Graph}
 use Rattle.pg_game.specs.declared.field.Field.{Field}
 use Rattle.pg_game.specs.declared.field.Field.TheVariants.{Graph as OnGraph}
 use Rattle.pg_game.specs.declared.game.Game.{Game}
 use Rattle.pg_game.specs.declared.position.Position.{Position}
 use Rattle.pg_game.specs.Field.{field_joins, terminals_joined}
 use Rattle.pg_game.specs.Fit.{IsBoard, is_switching, is_graph}
-use Rattle.pg_game.specs.Game.{is_over, outcome, is_over_by, outcome_by, has_filled, all_touched, is_full, short_joins, can_join}
+use Rattle.pg_game.specs.Game.{is_over, outcome, is_over_by, outcome_by, has_filled, all_touched}
+use Rattle.pg_game.specs.Game.{is_full, short_joins, can_join}
 use Rattle.pg_game.specs.Judge.{filling_result, race_result, joining_result}
 
 -- the result in a game of a kind, by what the rules look at

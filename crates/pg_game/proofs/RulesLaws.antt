@@ -1,10 +1,15 @@
 -- Values by rules, what a side forces by one step, and by keeping an invariant.
-use Rattle.std.proofs.Common.{◌≡◌, ℕ, zero, suc, ◌+◌, ◌-◌, ◌<◌, ◌≤◌, Bool, true, false, not, ◌&&◌, ◌∷◌, map, length, refl, sym, ap, ◌∙◌, inl, inr, arith, eqb}
-use Rattle.pg_game.proofs.Common.{cases_Bool, cond-true, cond-false, false≢true, filter_agree, filter, range_with_len, list_any, list_all, Goal, Score, Side, other, find_below}
+use Rattle.std.proofs.Common.{◌≡◌, ℕ, zero, suc, ◌+◌, ◌-◌, ◌<◌, ◌≤◌, Bool, true, false, not, ◌&&◌}
+use Rattle.std.proofs.Common.{◌∷◌, map, length, refl, sym, ap, ◌∙◌, inl, inr, arith, eqb}
+use Rattle.pg_game.proofs.Common.{cases_Bool, cond-true, cond-false, false≢true, filter_agree}
+use Rattle.pg_game.proofs.Common.{filter, range_with_len, list_any, list_all, Goal, Score, Side}
+use Rattle.pg_game.proofs.Common.{other, find_below}
 use Rattle.pg_game.specs.declared.position.Position.{Position}
 use Rattle.pg_game.specs.Position.{is_free}
-use Rattle.pg_game.specs.Rules.{Rules, moved, free_below, best, value_within, value_by, reaches, ForcesBy, IsEnding, KeepsBy}
-use Rattle.pg_game.proofs.FreePoints.{free_at, one_fewer, any-filter, all-filter, any-filter-from, all-filter-from}
+use Rattle.pg_game.specs.Rules.{Rules, moved, free_below, best, value_within, value_by, reaches}
+use Rattle.pg_game.specs.Rules.{ForcesBy, IsEnding, KeepsBy}
+use Rattle.pg_game.proofs.FreePoints.{free_at, one_fewer, any-filter, all-filter, any-filter-from}
+use Rattle.pg_game.proofs.FreePoints.{all-filter-from}
 use Rattle.pg_game.proofs.Scores.{reaches-best, reaches-best_other}
 use Rattle.pg_game.proofs.Sides.{side_cases}
 

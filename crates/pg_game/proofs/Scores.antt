@@ -1,6 +1,7 @@
 -- The best of scores, and what it reaches.
 use Rattle.std.proofs.Common.{◌≡◌, true, false, ◌&&◌, ◌||◌, List, [], ◌∷◌, map, refl, ap, ◌∙◌}
-use Rattle.pg_game.proofs.Common.{false≢true, list_any, list_all, Side, X, Y, other, Score, XWins, Draw, YWins, Goal, Win}
+use Rattle.pg_game.proofs.Common.{false≢true, list_any, list_all, Side, X, Y, other, Score, XWins}
+use Rattle.pg_game.proofs.Common.{Draw, YWins, Goal, Win}
 use Rattle.pg_base.specs.declared.goal.Goal.TheVariants.{Draw as AtLeastDraw}
 use Rattle.pg_game.specs.Rules.{better, best, reaches}
 

@@ -1,6 +1,9 @@
 -- The laws of one step of what a list of positions settles.
-use Rattle.std.proofs.Common.{◌≡◌, ℕ, zero, suc, ltb, ◌-◌, ◌<◌, Bool, true, false, Option, Some, None, List, [], ◌∷◌, map, length, refl, sym, ap, ◌∙◌, inl, inr, arith, if◌then◌else◌}
-use Rattle.pg_game.proofs.Common.{cases_Bool, cond-true, cond-false, ltb-true, lt-ltb, Contains, option_or, Score}
+use Rattle.std.proofs.Common.{◌≡◌, ℕ, zero, suc, ltb, ◌-◌, ◌<◌, Bool, true, false, Option, Some}
+use Rattle.std.proofs.Common.{None, List, [], ◌∷◌, map, length, refl, sym, ap, ◌∙◌, inl, inr, arith}
+use Rattle.std.proofs.Common.{if◌then◌else◌}
+use Rattle.pg_game.proofs.Common.{cases_Bool, cond-true, cond-false, ltb-true, lt-ltb, Contains}
+use Rattle.pg_game.proofs.Common.{option_or, Score}
 use Rattle.std.proofs.lemmas.Option.{none-some}
 use Rattle.pg_game.specs.declared.game.Game.{Game}
 use Rattle.pg_game.specs.declared.position.Position.{Position}

@@ -1,6 +1,8 @@
 -- How a side forces a goal by keeping an invariant.
-use Rattle.std.proofs.Common.{◌≡◌, ℕ, List, [], ◌∷◌, ◌<◌, ◌≤◌, Bool, true, false, not, ◌&&◌, ◌||◌, length, refl, sym, ◌∙◌, inl, inr, ◌⊎◌, arith}
-use Rattle.pg_game.proofs.Common.{cases_Bool, or_left, or_right, not_from_false, false≢true, Side, Kind, MakerBreaker, MakerMaker, AvoiderEnforcer, Switching, Goal}
+use Rattle.std.proofs.Common.{◌≡◌, ℕ, List, [], ◌∷◌, ◌<◌, ◌≤◌, Bool, true, false, not, ◌&&◌, ◌||◌}
+use Rattle.std.proofs.Common.{length, refl, sym, ◌∙◌, inl, inr, ◌⊎◌, arith}
+use Rattle.pg_game.proofs.Common.{cases_Bool, or_left, or_right, not_from_false, false≢true, Side}
+use Rattle.pg_game.proofs.Common.{Kind, MakerBreaker, MakerMaker, AvoiderEnforcer, Switching, Goal}
 use Rattle.pg_game.specs.declared.position.Position.{Position}
 use Rattle.pg_game.specs.Position.{is_free}
 use Rattle.pg_game.specs.declared.game.Game.{Game}

@@ -1,7 +1,14 @@
 -- The terminals of a graph are joined where walks join them.
-use Rattle.std.proofs.Common.{◌≡◌, ◌≢◌, ℕ, eqb, ltb, eq-eqb, ne_eqb, zero, suc, ◌<◌, ◌+◌, Bool, true, false, not, ◌&&◌, ◌||◌, refl, sym, ap, ◌∙◌, inl, inr, arith}
+use Rattle.std.proofs.Common.{◌≡◌, ◌≢◌, ℕ, eqb, ltb, eq-eqb, ne_eqb, zero, suc, ◌<◌, ◌+◌, Bool}
+use Rattle.std.proofs.Common.{true, false, not, ◌&&◌, ◌||◌, refl, sym, ap, ◌∙◌, inl, inr, arith}
 use Rattle.std.specs.Prelude.{◌↔◌, IsTrue}
-use Rattle.pg_game.proofs.Common.{Decides, cases_Bool, cases_eq, cases_lt, both_ways, false_from_ne_true, and_from, or_left, not_from_false, lt-ltb, le-ltb, FinSet, contains, insert, nat_cmp, in_insert, below, IsBelow, joins, first_end, second_end, edge_count, first_end_of, second_end_of, IsJoinedIn, joins_in, Graph, joins_in-sound, joins_in-complete, joins_in-edges, joins_same, joins-below, first_end_of-edge, second_end_of-edge}
+use Rattle.pg_game.proofs.Common.{Decides, cases_Bool, cases_eq, cases_lt, both_ways}
+use Rattle.pg_game.proofs.Common.{false_from_ne_true, and_from, or_left, not_from_false, lt-ltb}
+use Rattle.pg_game.proofs.Common.{le-ltb, FinSet, contains, insert, nat_cmp, in_insert, below}
+use Rattle.pg_game.proofs.Common.{IsBelow, joins, first_end, second_end, edge_count, first_end_of}
+use Rattle.pg_game.proofs.Common.{second_end_of, IsJoinedIn, joins_in, Graph, joins_in-sound}
+use Rattle.pg_game.proofs.Common.{joins_in-complete, joins_in-edges, joins_same, joins-below}
+use Rattle.pg_game.proofs.Common.{first_end_of-edge, second_end_of-edge}
 use Rattle.pg_graph.proofs.WalkLemmas.{joins_sound, joins_complete}
 use Rattle.pg_game.specs.Field.{terminals_joined}
 use Rattle.pg_game.specs.Walked.{AreConnected}

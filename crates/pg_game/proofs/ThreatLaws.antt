@@ -1,17 +1,28 @@
 -- The attacker of a threat line wins.
-use Rattle.std.proofs.Common.{◌≡◌, ◌≢◌, ℕ, ◌<◌, ◌≤◌, Bool, true, false, ◌&&◌, ◌||◌, ◌==◌, List, [], ◌∷◌, refl, sym, ap, ◌∙◌, subst, inl, inr, ◌⊎◌, arith, eqb-true, eq-eqb}
-use Rattle.pg_game.proofs.Common.{cases_Bool, cases_eq, and_parts, and_from, or_left, or_right, or_cases, or_parts, or_from, false≢true, All-contains, All, Contains, list_all, list_any, FinSet, contains, insert, nat_cmp, ShareNone, in_insert, other, Win, Kind, MakerBreaker, MakerMaker, AvoiderEnforcer, Switching, Side, X, Y}
+use Rattle.std.proofs.Common.{◌≡◌, ◌≢◌, ℕ, ◌<◌, ◌≤◌, Bool, true, false, ◌&&◌, ◌||◌, ◌==◌, List, []}
+use Rattle.std.proofs.Common.{◌∷◌, refl, sym, ap, ◌∙◌, subst, inl, inr, ◌⊎◌, arith, eqb-true}
+use Rattle.std.proofs.Common.{eq-eqb}
+use Rattle.pg_game.proofs.Common.{cases_Bool, cases_eq, and_parts, and_from, or_left, or_right}
+use Rattle.pg_game.proofs.Common.{or_cases, or_parts, or_from, false≢true, All-contains, All}
+use Rattle.pg_game.proofs.Common.{Contains, list_all, list_any, FinSet, contains, insert, nat_cmp}
+use Rattle.pg_game.proofs.Common.{ShareNone, in_insert, other, Win, Kind, MakerBreaker, MakerMaker}
+use Rattle.pg_game.proofs.Common.{AvoiderEnforcer, Switching, Side, X, Y}
 use Rattle.pg_game.specs.declared.game.Game.{Game}
 use Rattle.pg_game.specs.declared.position.Position.{Position}
 use Rattle.pg_game.specs.Position.{is_free, points_of}
-use Rattle.pg_game.specs.Game.{lines_of, point_count, bias_of, has_filled, is_filled, is_touched, all_touched, is_full, short_joins, can_join, is_over, outcome, is_over_by, outcome_by, after, IsPosition}
+use Rattle.pg_game.specs.Game.{lines_of, point_count, bias_of, has_filled, is_filled, is_touched}
+use Rattle.pg_game.specs.Game.{all_touched, is_full, short_joins, can_join, is_over, outcome}
+use Rattle.pg_game.specs.Game.{is_over_by, outcome_by, after, IsPosition}
 use Rattle.pg_game.specs.Potential.{is_on}
-use Rattle.pg_game.specs.Threat.{is_near, threatens, has_threat, may_attack, IsAttack, Forcing, Filling, LeadsToLine, IsThreatLine, IsUnfilled, IsAttacking}
+use Rattle.pg_game.specs.Threat.{is_near, threatens, has_threat, may_attack, IsAttack, Forcing}
+use Rattle.pg_game.specs.Threat.{Filling, LeadsToLine, IsThreatLine, IsUnfilled, IsAttacking}
 use Rattle.pg_game.specs.Value.{reaches, Forces}
 use Rattle.pg_game.proofs.FreePoints.{is_full-one}
 use Rattle.pg_game.proofs.Limits.{lines-range}
 use Rattle.pg_game.proofs.Members.{true-at, false-at, list_any-none, list_any-one, member-from_any}
-use Rattle.pg_game.proofs.Moves.{other_other, points_of-mover, points_of-waiter, points-stay, turn-alternates, free-of, free-stays, free-was, apart, IsPosition-after}
+use Rattle.pg_game.proofs.Moves.{other_other, points_of-mover, points_of-waiter, points-stay}
+use Rattle.pg_game.proofs.Moves.{turn-alternates, free-of, free-stays, free-was, apart}
+use Rattle.pg_game.proofs.Moves.{IsPosition-after}
 use Rattle.pg_game.proofs.ValueLaws.{Forces-over, Forces-move, Forces-all}
 
 -- ---- tests of all members of a list

@@ -1,13 +1,20 @@
 -- A side has a threat line of at most some depth exactly where trying all attacks and replies finds
 -- one.
-use Rattle.std.proofs.Common.{◌≡◌, ℕ, zero, suc, ◌<◌, ◌≤◌, ◌/◌, Bool, true, false, not, ◌&&◌, ◌||◌, ◌==◌, nat_lt, List, [], ◌∷◌, length, refl, sym, ap, ap₂, ◌∙◌, subst, inl, inr, ◌⊎◌, arith, eqb-true, eq-eqb}
-use Rattle.pg_game.proofs.Common.{cases_Bool, and_parts, and_from, or_left, or_right, or_cases, not-true, not_from_false, false≢true, lt-ltb, ltb-true, list_any, other, Kind, MakerBreaker, MakerMaker, AvoiderEnforcer, Switching, Side}
+use Rattle.std.proofs.Common.{◌≡◌, ℕ, zero, suc, ◌<◌, ◌≤◌, ◌/◌, Bool, true, false, not, ◌&&◌, ◌||◌}
+use Rattle.std.proofs.Common.{◌==◌, nat_lt, List, [], ◌∷◌, length, refl, sym, ap, ap₂, ◌∙◌, subst}
+use Rattle.std.proofs.Common.{inl, inr, ◌⊎◌, arith, eqb-true, eq-eqb}
+use Rattle.pg_game.proofs.Common.{cases_Bool, and_parts, and_from, or_left, or_right, or_cases}
+use Rattle.pg_game.proofs.Common.{not-true, not_from_false, false≢true, lt-ltb, ltb-true, list_any}
+use Rattle.pg_game.proofs.Common.{other, Kind, MakerBreaker, MakerMaker, AvoiderEnforcer, Switching}
+use Rattle.pg_game.proofs.Common.{Side}
 use Rattle.pg_game.specs.declared.game.Game.{Game}
 use Rattle.pg_game.specs.declared.position.Position.{Position}
 use Rattle.pg_game.specs.Position.{is_free}
 use Rattle.pg_game.specs.Game.{point_count, free_points, has_filled, is_over, after}
 use Rattle.pg_game.specs.Decided.{attack_wins, greatest_depth}
-use Rattle.pg_game.specs.Threat.{may_attack, threatens, has_threat, is_race, is_forcing, can_fill, leads_within, has_threat_line, ComesFirst, IsAttack, Forcing, Filling, LeadsToLine, IsThreatLine, IsFirstThreatLine, depth_of}
+use Rattle.pg_game.specs.Threat.{may_attack, threatens, has_threat, is_race, is_forcing, can_fill}
+use Rattle.pg_game.specs.Threat.{leads_within, has_threat_line, ComesFirst, IsAttack, Forcing}
+use Rattle.pg_game.specs.Threat.{Filling, LeadsToLine, IsThreatLine, IsFirstThreatLine, depth_of}
 use Rattle.pg_game.proofs.FreePoints.{any-free_points, any-free_points-from}
 use Rattle.pg_game.proofs.ThreatLaws.{near-from, near-range}
 

@@ -1,6 +1,7 @@
 -- A side that lets the other fill no line has reached its goal where the game is over.
 use Rattle.std.proofs.Common.{◌≡◌, ◌≤◌, Bool, true, false, refl, ap₂, ◌∙◌, subst, arith}
-use Rattle.pg_game.proofs.Common.{Win, Kind, MakerBreaker, MakerMaker, AvoiderEnforcer, Side, X, Y, other}
+use Rattle.pg_game.proofs.Common.{Win, Kind, MakerBreaker, MakerMaker, AvoiderEnforcer, Side, X, Y}
+use Rattle.pg_game.proofs.Common.{other}
 use Rattle.pg_base.specs.declared.goal.Goal.TheVariants.{Draw as AtLeastDraw}
 use Rattle.pg_game.specs.declared.game.Game.{Game}
 use Rattle.pg_game.specs.declared.position.Position.{Position}

@@ -8,7 +8,9 @@ use Rattle.pg_game.specs.Game.{after, free_points, point_count, is_over, outcome
 use Rattle.pg_game.specs.Rules.{free_below}
 use Rattle.pg_game.specs.Value.{best, value, reaches, rules_of, Forces}
 use Rattle.pg_game.proofs.Scores.{reaches-any}
-use Rattle.pg_game.proofs.RulesLaws.{value_by-over, value_by-step, reaches_by-own, reaches_by-theirs, ForcesBy-over, ForcesBy-move, ForcesBy-all, ForcesBy-move-from, ForcesBy-all-from}
+use Rattle.pg_game.proofs.RulesLaws.{value_by-over, value_by-step, reaches_by-own}
+use Rattle.pg_game.proofs.RulesLaws.{reaches_by-theirs, ForcesBy-over, ForcesBy-move, ForcesBy-all}
+use Rattle.pg_game.proofs.RulesLaws.{ForcesBy-move-from, ForcesBy-all-from}
 use Rattle.pg_game.proofs.Strategy.{IsEnding-game}
 
 -- where the game is over the value is the outcome

@@ -1,12 +1,14 @@
 -- A switching game by walks.
 use Rattle.std.proofs.Common.{◌≡◌, not, ◌||◌, cond, ap, ◌∙◌}
-use Rattle.pg_game.proofs.Common.{false_from_ne_true, or_left, or_right, not_from_false, contains, Kind, XWins, YWins, X, Y, Graph}
+use Rattle.pg_game.proofs.Common.{false_from_ne_true, or_left, or_right, not_from_false, contains}
+use Rattle.pg_game.proofs.Common.{Kind, XWins, YWins, X, Y, Graph}
 use Rattle.pg_game.specs.declared.field.Field.{Field}
 use Rattle.pg_game.specs.declared.field.Field.TheVariants.{Graph as OnGraph}
 use Rattle.pg_game.specs.declared.game.Game.{Game}
 use Rattle.pg_game.specs.declared.position.Position.{Position}
 use Rattle.pg_game.specs.Field.{field_joins, terminals_joined}
-use Rattle.pg_game.specs.Game.{is_over, outcome, is_over_by, outcome_by, has_filled, all_touched, is_full, short_joins, can_join}
+use Rattle.pg_game.specs.Game.{is_over, outcome, is_over_by, outcome_by, has_filled, all_touched}
+use Rattle.pg_game.specs.Game.{is_full, short_joins, can_join}
 use Rattle.pg_game.specs.Walked.{IsJoiningGame}
 use Rattle.pg_game.proofs.Outcomes.{switching-on_graph}
 use Rattle.pg_game.proofs.TerminalLemmas.{terminals-decides}

@@ -1,6 +1,9 @@
 -- Weights fit 128 bits.
-use Rattle.std.proofs.Common.{◌≡◌, ◌≢◌, ℕ, ◌+◌, ◌^◌, ◌<◌, ◌≤◌, Bool, ◌==◌, if◌then◌else◌, List, [], ◌∷◌, length, refl, sym, subst, inl, inr, arith, eqb-true, All, get_or}
-use Rattle.pg_game.proofs.Common.{cases_Bool, pow-le-pow_left, pow-le-pow_right, sum_by-le, All-weaker, Contains, FinSet, nat_cmp, Kind, MakerBreaker, MakerMaker, AvoiderEnforcer, Switching}
+use Rattle.std.proofs.Common.{◌≡◌, ◌≢◌, ℕ, ◌+◌, ◌^◌, ◌<◌, ◌≤◌, Bool, ◌==◌, if◌then◌else◌, List, []}
+use Rattle.std.proofs.Common.{◌∷◌, length, refl, sym, subst, inl, inr, arith, eqb-true, All, get_or}
+use Rattle.pg_game.proofs.Common.{cases_Bool, pow-le-pow_left, pow-le-pow_right, sum_by-le}
+use Rattle.pg_game.proofs.Common.{All-weaker, Contains, FinSet, nat_cmp, Kind, MakerBreaker}
+use Rattle.pg_game.proofs.Common.{MakerMaker, AvoiderEnforcer, Switching}
 use Rattle.pg_game.specs.declared.game.Game.{Game}
 use Rattle.pg_game.specs.declared.position.Position.{Position}
 use Rattle.pg_game.specs.declared.field.Field.{Field}
@@ -9,7 +12,8 @@ use Rattle.pg_game.specs.Field.{field_points, field_lines}
 use Rattle.pg_game.proofs.Outcomes.{switching-on_graph}
 use Rattle.pg_game.specs.Fit.{IsLineOf, FieldFits, longest, greatest_bias}
 use Rattle.pg_game.specs.Game.{lines_of, point_count, is_touched}
-use Rattle.pg_game.specs.Potential.{greatest_length, line_weight, total_weight, full_weight, IsBaseOf}
+use Rattle.pg_game.specs.Potential.{greatest_length, line_weight, total_weight, full_weight}
+use Rattle.pg_game.specs.Potential.{IsBaseOf}
 use Rattle.pg_game.proofs.Limits.{lines-fit}
 use Rattle.pg_game.proofs.Members.{Contains-head, Contains-tail}
 

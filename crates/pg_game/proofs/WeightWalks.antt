@@ -1,6 +1,10 @@
 -- The steps of the walk over the lines.
-use Rattle.std.proofs.Common.{◌≡◌, ℕ, ◌+◌, ◌^◌, ◌<◌, ◌≤◌, max, Bool, true, false, ◌||◌, ◌==◌, if◌then◌else◌, List, length, get_or, take, drop, set, eq-eqb, ne_eqb, refl, sym, ap, ◌∙◌, inl, inr, arith, get_or-take, length-take-le}
-use Rattle.pg_game.proofs.Common.{cases_eq, at_drop_more, get_or_default, get_or-set_same, get_or-set_other, list_any_more, sum_by, IsStrictlyIncreasing, FinSet, nat_cmp}
+use Rattle.std.proofs.Common.{◌≡◌, ℕ, ◌+◌, ◌^◌, ◌<◌, ◌≤◌, max, Bool, true, false, ◌||◌, ◌==◌}
+use Rattle.std.proofs.Common.{if◌then◌else◌, List, length, get_or, take, drop, set, eq-eqb, ne_eqb}
+use Rattle.std.proofs.Common.{refl, sym, ap, ◌∙◌, inl, inr, arith, get_or-take, length-take-le}
+use Rattle.pg_game.proofs.Common.{cases_eq, at_drop_more, get_or_default, get_or-set_same}
+use Rattle.pg_game.proofs.Common.{get_or-set_other, list_any_more, sum_by, IsStrictlyIncreasing}
+use Rattle.pg_game.proofs.Common.{FinSet, nat_cmp}
 use Rattle.std.proofs.lemmas.List.Kept.{AllPairs-from_increasing}
 use Rattle.pg_game.specs.declared.position.Position.{Position}
 use Rattle.pg_game.specs.declared.game.Game.{Game}

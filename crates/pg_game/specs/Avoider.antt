@@ -2,7 +2,8 @@
 -- it rests on two facts. A point that Enforcer takes after Avoider's point of least weight weighs
 -- at least as much as Avoider's did, so that Enforcer's first point brings the total back to what
 -- it was or below; and where Avoider takes the last point the total at most doubles.
-use Rattle.std.specs.Prelude.{ℕ, ◌+◌, ◌-◌, ◌*◌, ◌%◌, ◌<◌, min, Bool, ◌&&◌, List, [], ◌∷◌, length, map, ◌==◌, nat_lt, find, unwrap_or, if◌then◌else◌}
+use Rattle.std.specs.Prelude.{ℕ, ◌+◌, ◌-◌, ◌*◌, ◌%◌, ◌<◌, min, Bool, ◌&&◌, List, [], ◌∷◌, length}
+use Rattle.std.specs.Prelude.{map, ◌==◌, nat_lt, find, unwrap_or, if◌then◌else◌}
 use Rattle.pg_game.specs.Prelude.{Side, X, Y}
 use Rattle.pg_game.specs.declared.game.Game.{Game}
 use Rattle.pg_game.specs.declared.position.Position.{Position}

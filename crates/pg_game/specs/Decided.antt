@@ -1,6 +1,8 @@
 -- Which positions are decided without search, for the question whether X reaches a score.
-use Rattle.std.specs.Prelude.{◌≡◌, ℕ, ◌%◌, Bool, true, false, not, ◌&&◌, ◌==◌, nat_lt, List, [], ◌∷◌, length, filter, Option, Some, None, option_map, if◌then◌else◌}
-use Rattle.pg_game.specs.Prelude.{list_any, minus, Goal, Win, Kind, MakerBreaker, MakerMaker, AvoiderEnforcer, Switching, Score, XWins, Draw, YWins, Side, X, Y}
+use Rattle.std.specs.Prelude.{◌≡◌, ℕ, ◌%◌, Bool, true, false, not, ◌&&◌, ◌==◌, nat_lt, List, []}
+use Rattle.std.specs.Prelude.{◌∷◌, length, filter, Option, Some, None, option_map, if◌then◌else◌}
+use Rattle.pg_game.specs.Prelude.{list_any, minus, Goal, Win, Kind, MakerBreaker, MakerMaker}
+use Rattle.pg_game.specs.Prelude.{AvoiderEnforcer, Switching, Score, XWins, Draw, YWins, Side, X, Y}
 use Rattle.pg_base.specs.declared.goal.Goal.TheVariants.{Draw as AtLeastDraw}
 use Rattle.pg_game.specs.declared.game.Game.{Game}
 use Rattle.pg_game.specs.declared.position.Position.{Position}

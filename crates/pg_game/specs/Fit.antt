@@ -1,9 +1,13 @@
 -- What every game keeps: it is within the limits, and its parts fit together.
-use Rattle.std.specs.Prelude.{◌≡◌, ◌≢◌, ℕ, ◌*◌, ◌<◌, ◌≤◌, ◌==◌, true, false, List, length, if◌then◌else◌, Bool, Some}
+use Rattle.std.specs.Prelude.{◌≡◌, ◌≢◌, ℕ, ◌*◌, ◌<◌, ◌≤◌, ◌==◌, true, false, List, length}
+use Rattle.std.specs.Prelude.{if◌then◌else◌, Bool, Some}
 use Rattle.pg_game.specs.Prelude.{All, sum_by, IsStrictlyIncreasing, FinSet, nat_cmp}
 pub use Rattle.pg_base.specs.Points.{AreBelow, ShareNone}
-use Rattle.pg_game.specs.Prelude.{Grid, Kind, MakerBreaker, MakerMaker, AvoiderEnforcer, Switching, Graph, MAX_EDGES}
-use Rattle.pg_game.specs.declared.bounds.TheConstants.{MAX_POINTS, MAX_LINES, MAX_LINE_POINTS, MAX_BIASED_LINE_POINTS, MAX_SUMMED_POINTS, MAX_VERTICES, MAX_BIAS}
+use Rattle.pg_game.specs.Prelude.{Grid, Kind, MakerBreaker, MakerMaker, AvoiderEnforcer, Switching}
+use Rattle.pg_game.specs.Prelude.{Graph, MAX_EDGES}
+use Rattle.pg_game.specs.declared.bounds.TheConstants.{MAX_POINTS, MAX_LINES, MAX_LINE_POINTS}
+use Rattle.pg_game.specs.declared.bounds.TheConstants.{MAX_BIASED_LINE_POINTS, MAX_SUMMED_POINTS}
+use Rattle.pg_game.specs.declared.bounds.TheConstants.{MAX_VERTICES, MAX_BIAS}
 use Rattle.pg_game.specs.Field.{field_points}
 use Rattle.pg_game.specs.declared.field.Field.{Field}
 use Rattle.pg_game.specs.declared.field.Field.TheVariants.{Lines, Graph as OnGraph}

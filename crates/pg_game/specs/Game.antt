@@ -1,6 +1,9 @@
 -- The rules: which points are free, what a move does, when a game is over and what its outcome is.
-use Rattle.std.specs.Prelude.{◌≡◌, ◌<◌, ◌≤◌, ℕ, Bool, true, false, not, ◌||◌, List, [], Option, find, if◌then◌else◌}
-use Rattle.pg_game.specs.Prelude.{range_with_len, filter, list_all, list_any, FinSet, contains, nat_cmp, AreBelow, ShareNone, Kind, MakerBreaker, MakerMaker, AvoiderEnforcer, Switching, Score, XWins, Draw, YWins, Side, X, Y}
+use Rattle.std.specs.Prelude.{◌≡◌, ◌<◌, ◌≤◌, ℕ, Bool, true, false, not, ◌||◌, List, [], Option}
+use Rattle.std.specs.Prelude.{find, if◌then◌else◌}
+use Rattle.pg_game.specs.Prelude.{range_with_len, filter, list_all, list_any, FinSet, contains}
+use Rattle.pg_game.specs.Prelude.{nat_cmp, AreBelow, ShareNone, Kind, MakerBreaker, MakerMaker}
+use Rattle.pg_game.specs.Prelude.{AvoiderEnforcer, Switching, Score, XWins, Draw, YWins, Side, X, Y}
 use Rattle.pg_game.specs.declared.field.Field.{Field}
 use Rattle.pg_game.specs.declared.game.Game.{Game}
 use Rattle.pg_game.specs.declared.position.Position.{Position}

@@ -1,7 +1,10 @@
 -- Pairs of free points of which the claimer needs one each (Hales and Jewett's pairing, at any
 -- position).
-use Rattle.std.specs.Prelude.{◌≡◌, ◌≢◌, ℕ, ◌<◌, Bool, true, false, not, ◌&&◌, ◌||◌, ◌==◌, List, [], ◌∷◌, length, Option, Some, None, find, filter, unwrap_or, if◌then◌else◌}
-use Rattle.pg_game.specs.Prelude.{All, Any, AllPairs, Contains, list_any, option_or, FinSet, nat_cmp, Kind, AvoiderEnforcer, Side, X, Y}
+use Rattle.std.specs.Prelude.{◌≡◌, ◌≢◌, ℕ, ◌<◌, Bool, true, false, not, ◌&&◌, ◌||◌, ◌==◌, List, []}
+use Rattle.std.specs.Prelude.{◌∷◌, length, Option, Some, None, find, filter, unwrap_or}
+use Rattle.std.specs.Prelude.{if◌then◌else◌}
+use Rattle.pg_game.specs.Prelude.{All, Any, AllPairs, Contains, list_any, option_or, FinSet}
+use Rattle.pg_game.specs.Prelude.{nat_cmp, Kind, AvoiderEnforcer, Side, X, Y}
 use Rattle.pg_base.specs.declared.pair.Pair.{Pair}
 use Rattle.pg_game.specs.declared.game.Game.{Game}
 use Rattle.pg_game.specs.declared.position.Position.{Position}

@@ -1,6 +1,7 @@
 -- The potential of Erdős and Selfridge (1973) in whole numbers, at any position, where Y claims q
 -- points a turn.
-use Rattle.std.specs.Prelude.{ℕ, ◌+◌, ◌-◌, ◌*◌, ◌^◌, ◌<◌, ◌≤◌, max, Bool, true, false, List, [], ◌∷◌, length, map, ◌==◌, nat_lt, find, unwrap_or, if◌then◌else◌}
+use Rattle.std.specs.Prelude.{ℕ, ◌+◌, ◌-◌, ◌*◌, ◌^◌, ◌<◌, ◌≤◌, max, Bool, true, false, List, []}
+use Rattle.std.specs.Prelude.{◌∷◌, length, map, ◌==◌, nat_lt, find, unwrap_or, if◌then◌else◌}
 use Rattle.pg_game.specs.Prelude.{list_any, count_by, sum_by, FinSet, nat_cmp, is_same_side, Side}
 use Rattle.pg_game.specs.declared.game.Game.{Game}
 use Rattle.pg_game.specs.declared.position.Position.{Position}

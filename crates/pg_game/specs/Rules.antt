@@ -1,7 +1,9 @@
 -- Games in which two sides take points in turn, by their rules alone: values, what a side forces,
 -- and invariants that it keeps.
-use Rattle.std.specs.Prelude.{◌≡◌, ◌<◌, ℕ, zero, suc, Bool, true, false, List, [], ◌∷◌, map, length, if◌then◌else◌, IsTrue}
-use Rattle.pg_game.specs.Prelude.{range_with_len, filter, Goal, Win, Score, XWins, Draw, YWins, Side, X, Y, other}
+use Rattle.std.specs.Prelude.{◌≡◌, ◌<◌, ℕ, zero, suc, Bool, true, false, List, [], ◌∷◌, map, length}
+use Rattle.std.specs.Prelude.{if◌then◌else◌, IsTrue}
+use Rattle.pg_game.specs.Prelude.{range_with_len, filter, Goal, Win, Score, XWins, Draw, YWins}
+use Rattle.pg_game.specs.Prelude.{Side, X, Y, other}
 use Rattle.pg_base.specs.declared.goal.Goal.TheVariants.{Draw as AtLeastDraw}
 use Rattle.pg_game.specs.declared.position.Position.{Position}
 use Rattle.pg_game.specs.Position.{is_free, after_with}

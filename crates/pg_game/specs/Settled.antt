@@ -1,6 +1,7 @@
 -- Which positions a list of positions settles, and the lists of expanded positions that leave a
 -- question open.
-use Rattle.std.specs.Prelude.{◌≡◌, ℕ, zero, suc, ◌<◌, Bool, true, false, not, Option, Some, None, List, map, length, take, slice_get, if◌then◌else◌}
+use Rattle.std.specs.Prelude.{◌≡◌, ℕ, zero, suc, ◌<◌, Bool, true, false, not, Option, Some, None}
+use Rattle.std.specs.Prelude.{List, map, length, take, slice_get, if◌then◌else◌}
 use Rattle.pg_game.specs.Prelude.{list_any, list_all, Contains, option_or, Score, Side}
 use Rattle.pg_game.specs.declared.game.Game.{Game}
 use Rattle.pg_game.specs.declared.position.Position.{Position}

@@ -1,10 +1,13 @@
 -- Threat lines: attacks that each force one reply, up to a filled line.
-use Rattle.std.specs.Prelude.{◌≡◌, ◌⊎◌, ℕ, zero, suc, ◌<◌, ◌≤◌, ◌/◌, Bool, true, false, not, ◌&&◌, ◌||◌, ◌==◌, List, [], ◌∷◌, length}
-use Rattle.pg_game.specs.Prelude.{list_any, list_all, contains, Kind, MakerBreaker, MakerMaker, AvoiderEnforcer, Switching, Side, X, Y, other}
+use Rattle.std.specs.Prelude.{◌≡◌, ◌⊎◌, ℕ, zero, suc, ◌<◌, ◌≤◌, ◌/◌, Bool, true, false, not, ◌&&◌}
+use Rattle.std.specs.Prelude.{◌||◌, ◌==◌, List, [], ◌∷◌, length}
+use Rattle.pg_game.specs.Prelude.{list_any, list_all, contains, Kind, MakerBreaker, MakerMaker}
+use Rattle.pg_game.specs.Prelude.{AvoiderEnforcer, Switching, Side, X, Y, other}
 use Rattle.pg_game.specs.declared.game.Game.{Game}
 use Rattle.pg_game.specs.declared.position.Position.{Position}
 use Rattle.pg_game.specs.Position.{is_free, points_of}
-use Rattle.pg_game.specs.Game.{lines_of, point_count, free_points, has_filled, is_over, after, IsPosition}
+use Rattle.pg_game.specs.Game.{lines_of, point_count, free_points, has_filled, is_over, after}
+use Rattle.pg_game.specs.Game.{IsPosition}
 use Rattle.pg_game.specs.Potential.{is_on}
 
 -- whether all points of the line are the side's but u, which is on it and free

@@ -1,7 +1,10 @@
 -- Trees for Short and cuts for Cut in the switching game, with the edge e between the terminals
 -- (Lehman 1964 and its dual, by walks alone), and the answers by them.
-use Rattle.std.specs.Prelude.{◌≡◌, ◌⊎◌, ℕ, ◌<◌, Bool, true, false, not, ◌&&◌, Option, Some, None, find, unwrap_or, if◌then◌else◌}
-use Rattle.pg_game.specs.Prelude.{range_with_len, FinSet, contains, remove, nat_cmp, ShareNone, minus, either, outside, Side, X, Y, Graph, edge_count, first_end_of, second_end_of, joins_in, JoinsEndsOf, IsBridge}
+use Rattle.std.specs.Prelude.{◌≡◌, ◌⊎◌, ℕ, ◌<◌, Bool, true, false, not, ◌&&◌, Option, Some, None}
+use Rattle.std.specs.Prelude.{find, unwrap_or, if◌then◌else◌}
+use Rattle.pg_game.specs.Prelude.{range_with_len, FinSet, contains, remove, nat_cmp, ShareNone}
+use Rattle.pg_game.specs.Prelude.{minus, either, outside, Side, X, Y, Graph, edge_count}
+use Rattle.pg_game.specs.Prelude.{first_end_of, second_end_of, joins_in, JoinsEndsOf, IsBridge}
 use Rattle.pg_game.specs.declared.field.Field.{Field}
 use Rattle.pg_game.specs.declared.field.Field.TheVariants.{Lines, Graph as OnGraph}
 use Rattle.pg_game.specs.declared.game.Game.{Game}

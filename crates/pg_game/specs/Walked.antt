@@ -1,6 +1,7 @@
 -- What a switching game looks at, said by walks.
 use Rattle.std.specs.Prelude.{◌≡◌, ℕ, Bool, true, false, not, length}
-use Rattle.pg_game.specs.Prelude.{contains, below, Switching, XWins, YWins, IsJoined, first_end, second_end, Graph}
+use Rattle.pg_game.specs.Prelude.{contains, below, Switching, XWins, YWins, IsJoined, first_end}
+use Rattle.pg_game.specs.Prelude.{second_end, Graph}
 use Rattle.pg_game.specs.declared.game.Game.{Game}
 use Rattle.pg_game.specs.declared.position.Position.{Position}
 use Rattle.pg_game.specs.Game.{is_over, outcome}

@@ -1,5 +1,6 @@
 -- What the test of its only node tells of a claim.
-use Rattle.std.proofs.Common.{◌≡◌, inr, sym, ap, ◌∙◌, subst, Option, Some, None, length, slice_get, unwrap_or}
+use Rattle.std.proofs.Common.{◌≡◌, inr, sym, ap, ◌∙◌, subst, Option, Some, None, length, slice_get}
+use Rattle.std.proofs.Common.{unwrap_or}
 use Rattle.pg_gf2.proofs.Common.{Node, Claim, Version, One}
 use Rattle.pg_gf2.specs.declared.flaw.VecFlaw.{VecFlaw}
 use Rattle.pg_gf2.specs.declared.game.VecGame.{VecGame}

@@ -1,6 +1,7 @@
 -- What two settled bases of vectors make the class.
 use Rattle.std.proofs.Common.{◌≡◌, ℕ, refl, Some, length}
-use Rattle.pg_gf2.proofs.Common.{contains, Side, X, Y, IsPlace, Matroid, Class, named, free_with_e, SpanSetsHold-decided, SpanSetsHold-class}
+use Rattle.pg_gf2.proofs.Common.{contains, Side, X, Y, IsPlace, Matroid, Class, named, free_with_e}
+use Rattle.pg_gf2.proofs.Common.{SpanSetsHold-decided, SpanSetsHold-class}
 use Rattle.pg_lehman.specs.Taken.{IsTaken}
 use Rattle.pg_gf2.specs.declared.game.VecGame.{VecGame}
 use Rattle.pg_gf2.specs.Vectors.{vector_spans, vector_matroid}

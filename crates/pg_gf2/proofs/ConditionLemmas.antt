@@ -1,6 +1,13 @@
 -- Trees and cuts by what two sets span and by the bridges of two sets.
-use Rattle.std.proofs.Common.{◌≡◌, ◌≢◌, ℕ, ◌<◌, suc, Bool, true, false, not, nat_lt, inl, inr, refl, sym, ◌∙◌, subst, arith}
-use Rattle.pg_gf2.proofs.Common.{both_ways, cases_eq, and_parts, false_from_ne_true, not-true, not_from_false, FinSet, contains, nat_cmp, AreBelow, ShareNone, below, either, minus, outside, plus, IsWithin, Side, X, Y, below_from, below_parts, same_sets, minus_from, minus_parts, outside_from, outside_parts, plus_cases, plus_new, plus_old, Position, is_free, kept, left_without, AreFree, AreFreeOrE, AreSpanTrees, AreSpanCuts, IsSpanBridge}
+use Rattle.std.proofs.Common.{◌≡◌, ◌≢◌, ℕ, ◌<◌, suc, Bool, true, false, not, nat_lt, inl, inr, refl}
+use Rattle.std.proofs.Common.{sym, ◌∙◌, subst, arith}
+use Rattle.pg_gf2.proofs.Common.{both_ways, cases_eq, and_parts, false_from_ne_true, not-true}
+use Rattle.pg_gf2.proofs.Common.{not_from_false, FinSet, contains, nat_cmp, AreBelow, ShareNone}
+use Rattle.pg_gf2.proofs.Common.{below, either, minus, outside, plus, IsWithin, Side, X, Y}
+use Rattle.pg_gf2.proofs.Common.{below_from, below_parts, same_sets, minus_from, minus_parts}
+use Rattle.pg_gf2.proofs.Common.{outside_from, outside_parts, plus_cases, plus_new, plus_old}
+use Rattle.pg_gf2.proofs.Common.{Position, is_free, kept, left_without, AreFree, AreFreeOrE}
+use Rattle.pg_gf2.proofs.Common.{AreSpanTrees, AreSpanCuts, IsSpanBridge}
 use Rattle.std.proofs.lemmas.Bool.Decides.{nat_tests}
 
 module _ (spans : (ℕ → Bool) → ℕ → Bool) (n : ℕ) (p : Position) where

@@ -1,6 +1,13 @@
 -- Grounds of vectors: bases after a swap, and bases that were grown.
-use Rattle.std.proofs.Common.{◌≡◌, ℕ, ◌+◌, ◌<◌, Bool, true, false, not, refl, inl, inr, sym, ap, ◌∙◌, subst, subst₂, arith, bit_xor, List, [], ◌∷◌, ◌++◌, length, get_or}
-use Rattle.pg_gf2.proofs.Common.{cases_Bool, both_ways, false_from_ne_true, cond-true, cond-false, length-append, xor_zero_r, xor_assoc, xor_comm, contains, plus, minus, either, below, outside, IsBelow, minus_parts, minus_from, plus_cases, plus_old, plus_new, either_left, either_right, either_cases, outside_parts, below_parts, IsBase, swapped, free_with_e}
+use Rattle.std.proofs.Common.{◌≡◌, ℕ, ◌+◌, ◌<◌, Bool, true, false, not, refl, inl, inr, sym, ap}
+use Rattle.std.proofs.Common.{◌∙◌, subst, subst₂, arith, bit_xor, List, [], ◌∷◌, ◌++◌, length}
+use Rattle.std.proofs.Common.{get_or}
+use Rattle.pg_gf2.proofs.Common.{cases_Bool, both_ways, false_from_ne_true, cond-true, cond-false}
+use Rattle.pg_gf2.proofs.Common.{length-append, xor_zero_r, xor_assoc, xor_comm, contains, plus}
+use Rattle.pg_gf2.proofs.Common.{minus, either, below, outside, IsBelow, minus_parts, minus_from}
+use Rattle.pg_gf2.proofs.Common.{plus_cases, plus_old, plus_new, either_left, either_right}
+use Rattle.pg_gf2.proofs.Common.{either_cases, outside_parts, below_parts, IsBase, swapped}
+use Rattle.pg_gf2.proofs.Common.{free_with_e}
 use Rattle.pg_gf2.specs.declared.row.Row.{Row}
 use Rattle.pg_gf2.specs.Vectors.{total, is_sum, differ, vector_at, spans_over}
 use Rattle.pg_gf2.specs.Rows.{reduced, IsRow, IsTold, IsEliminated, IsTurned, AreTurned}

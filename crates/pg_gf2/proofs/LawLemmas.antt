@@ -1,13 +1,17 @@
 -- What valid claims force, and that a fault is told by what it says.
-use Rattle.std.proofs.Common.{◌≡◌, ℕ, true, inl, inr, refl, sym, ap, ◌∙◌, subst, Option, Some, None, length, List, slice_get, unwrap_or, arith, zero, suc, [], ◌∷◌}
-use Rattle.pg_gf2.proofs.Common.{both_ways, cases_lt, FinSet, nat_cmp, Win, Side, X, Y, Body, Node, Cert, Claim, Version, spans_mono, ForcesBy}
+use Rattle.std.proofs.Common.{◌≡◌, ℕ, true, inl, inr, refl, sym, ap, ◌∙◌, subst, Option, Some, None}
+use Rattle.std.proofs.Common.{length, List, slice_get, unwrap_or, arith, zero, suc, [], ◌∷◌}
+use Rattle.pg_gf2.proofs.Common.{both_ways, cases_lt, FinSet, nat_cmp, Win, Side, X, Y, Body, Node}
+use Rattle.pg_gf2.proofs.Common.{Cert, Claim, Version, spans_mono, ForcesBy}
 use Rattle.std.specs.Option.{is_some}
 use Rattle.pg_cert.specs.declared.node.Body.TheVariants as bodies
 use Rattle.pg_switch.proofs.SpanLaws.{ForcesBy-trees, ForcesBy-cuts}
 use Rattle.pg_gf2.specs.declared.flaw.VecFlaw.{VecFlaw}
 use Rattle.pg_gf2.specs.declared.flaw.VecFlaw.TheVariants as flaws
 use Rattle.pg_gf2.specs.declared.game.VecGame.{VecGame}
-use Rattle.pg_gf2.specs.Check.{flaw_number, names_sets, IsOfSide, HasTrees, HasCuts, IsVecClaimValid, IsVecValid, IsNodeFlaw, IsClaimFlaw, IsFirstVecFault}
+use Rattle.pg_gf2.specs.Check.{flaw_number, names_sets, IsOfSide, HasTrees, HasCuts}
+use Rattle.pg_gf2.specs.Check.{IsVecClaimValid, IsVecValid, IsNodeFlaw, IsClaimFlaw}
+use Rattle.pg_gf2.specs.Check.{IsFirstVecFault}
 use Rattle.pg_gf2.specs.Classes.{with_target, vector_rules, at_turn, TreesAt, CutsAt}
 use Rattle.pg_gf2.specs.GroundLaws.{IsSpan-vectors}
 use Rattle.pg_gf2.specs.Vectors.{vector_spans}

@@ -1,7 +1,9 @@
 -- The lowest numbers that pass a test, as they are found and as they are said.
-use Rattle.std.proofs.Common.{◌≡◌, ℕ, ◌<◌, ◌≤◌, ◌+◌, zero, suc, Bool, true, false, not, ◌&&◌, ◌⊎◌, List, Option, Some, None, inl, inr, refl, sym, ap, ◌∙◌, subst, arith}
+use Rattle.std.proofs.Common.{◌≡◌, ℕ, ◌<◌, ◌≤◌, ◌+◌, zero, suc, Bool, true, false, not, ◌&&◌, ◌⊎◌}
+use Rattle.std.proofs.Common.{List, Option, Some, None, inl, inr, refl, sym, ap, ◌∙◌, subst, arith}
 use Rattle.std.specs.Prelude.{unwrap_or}
-use Rattle.pg_gf2.proofs.Common.{cases_Bool, cases_eq, both_ways, find, range_with_len, FinSet, contains, nat_cmp, minus, Position, is_free}
+use Rattle.pg_gf2.proofs.Common.{cases_Bool, cases_eq, both_ways, find, range_with_len, FinSet}
+use Rattle.pg_gf2.proofs.Common.{contains, nat_cmp, minus, Position, is_free}
 use Rattle.pg_game.proofs.Lowest.{first_from, none_from}
 use Rattle.pg_gf2.specs.Answers.{lowest_free, lowest_needed}
 use Rattle.pg_gf2.specs.Vectors.{vector_spans}

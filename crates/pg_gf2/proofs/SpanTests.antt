@@ -1,6 +1,10 @@
 -- What an elimination tells of what vectors span, and of bridges.
-use Rattle.std.proofs.Common.{◌≡◌, ◌≢◌, ℕ, Bool, true, false, List, length, inl, inr, refl, ◌∙◌, subst}
-use Rattle.pg_gf2.proofs.Common.{both_ways, cases_Bool, false_from_ne_true, below, either, minus, outside, IsWithin, IsBelow, either_cases, either_left, either_right, minus_from, minus_parts, outside_from, outside_parts, below_from, below_parts, IsSpan, spans_mono, IsGrown}
+use Rattle.std.proofs.Common.{◌≡◌, ◌≢◌, ℕ, Bool, true, false, List, length, inl, inr, refl, ◌∙◌}
+use Rattle.std.proofs.Common.{subst}
+use Rattle.pg_gf2.proofs.Common.{both_ways, cases_Bool, false_from_ne_true, below, either, minus}
+use Rattle.pg_gf2.proofs.Common.{outside, IsWithin, IsBelow, either_cases, either_left}
+use Rattle.pg_gf2.proofs.Common.{either_right, minus_from, minus_parts, outside_from, outside_parts}
+use Rattle.pg_gf2.proofs.Common.{below_from, below_parts, IsSpan, spans_mono, IsGrown}
 use Rattle.pg_gf2.specs.declared.row.Row.{Row}
 use Rattle.pg_gf2.specs.Vectors.{vector_at, vector_spans, is_sum}
 use Rattle.pg_gf2.specs.Rows.{IsTold, IsEliminated, reduced}

@@ -1,10 +1,19 @@
 -- The claims of a class of a game on vectors, whose sets hold, are valid and within the limits.
-use Rattle.std.proofs.Common.{◌≡◌, ◌∙◌, ℕ, zero, suc, ◌<◌, ◌≤◌, Bool, true, false, if◌then◌else◌, List, [], ◌∷◌, Some, length, slice_get, refl, sym, subst, subst₂, inl, inr, arith}
-use Rattle.pg_gf2.proofs.Common.{both_ways, cases_Bool, cases_eq, All-cons, All-nil, none-some, FinSet, contains, insert, remove, All, nat_cmp, insert-remove, remove-old, remove-other, remove-self, Side, X, Y, ArePoints, IsBody, IsClaim, IsNode, IsOfVersion, IsTurn, IsWithinLimits, has_body, node_count, Cert, Claim, Version, One, Body, Trees, Cuts, Node, AreFree, AreFreeOrE, class_claims, node_at, set_claim, sets_body, Position}
+use Rattle.std.proofs.Common.{◌≡◌, ◌∙◌, ℕ, zero, suc, ◌<◌, ◌≤◌, Bool, true, false, if◌then◌else◌}
+use Rattle.std.proofs.Common.{List, [], ◌∷◌, Some, length, slice_get, refl, sym, subst, subst₂, inl}
+use Rattle.std.proofs.Common.{inr, arith}
+use Rattle.pg_gf2.proofs.Common.{both_ways, cases_Bool, cases_eq, All-cons, All-nil, none-some}
+use Rattle.pg_gf2.proofs.Common.{FinSet, contains, insert, remove, All, nat_cmp, insert-remove}
+use Rattle.pg_gf2.proofs.Common.{remove-old, remove-other, remove-self, Side, X, Y, ArePoints}
+use Rattle.pg_gf2.proofs.Common.{IsBody, IsClaim, IsNode, IsOfVersion, IsTurn, IsWithinLimits}
+use Rattle.pg_gf2.proofs.Common.{has_body, node_count, Cert, Claim, Version, One, Body, Trees, Cuts}
+use Rattle.pg_gf2.proofs.Common.{Node, AreFree, AreFreeOrE, class_claims, node_at, set_claim}
+use Rattle.pg_gf2.proofs.Common.{sets_body, Position}
 use Rattle.pg_base.proofs.Stands.{one_at}
 use Rattle.pg_base.specs.WordLemmas.{same_points}
 use Rattle.pg_cert.specs.declared.limits.TheConstants.{MAX_CLAIMS, MAX_NODES}
-use Rattle.pg_gf2.specs.Check.{AreVectorSets, HasCuts, HasTrees, IsOfSide, IsVecClaimValid, IsVecValid, NodePasses, names_sets, with_e_named}
+use Rattle.pg_gf2.specs.Check.{AreVectorSets, HasCuts, HasTrees, IsOfSide, IsVecClaimValid}
+use Rattle.pg_gf2.specs.Check.{IsVecValid, NodePasses, names_sets, with_e_named}
 use Rattle.pg_gf2.specs.Classes.{CutsAt, TreesAt, VectorSetsHold, at_turn}
 use Rattle.pg_gf2.specs.declared.flaw.VecFlaw.{VecFlaw}
 use Rattle.pg_gf2.specs.declared.flaw.VecFlaw.TheVariants as flaws

@@ -1,6 +1,8 @@
 -- What the calls tell of trees and cuts of vectors.
-use Rattle.std.proofs.Common.{◌≡◌, ℕ, ◌+◌, ◌<◌, suc, Bool, true, List, length, [], ◌∷◌, ◌++◌, sym, ap, ◌∙◌, subst, arith}
-use Rattle.pg_gf2.proofs.Common.{length-append, FinSet, contains, nat_cmp, AreBelow, AreWithin, either, outside, plus, Side, kept, left_without, IsSpanBridge}
+use Rattle.std.proofs.Common.{◌≡◌, ℕ, ◌+◌, ◌<◌, suc, Bool, true, List, length, [], ◌∷◌, ◌++◌, sym}
+use Rattle.std.proofs.Common.{ap, ◌∙◌, subst, arith}
+use Rattle.pg_gf2.proofs.Common.{length-append, FinSet, contains, nat_cmp, AreBelow, AreWithin}
+use Rattle.pg_gf2.proofs.Common.{either, outside, plus, Side, kept, left_without, IsSpanBridge}
 use Rattle.pg_gf2.specs.declared.game.VecGame.{VecGame}
 use Rattle.pg_gf2.specs.Vectors.{vector_spans}
 use Rattle.pg_gf2.specs.Classes.{with_target, at_turn}

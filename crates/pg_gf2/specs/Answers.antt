@@ -1,7 +1,9 @@
 -- A player's own moves in a game on vectors: by trees for X and by cuts for Y, by what sets span.
 -- The number n stands for the target.
-use Rattle.std.specs.Prelude.{ℕ, Bool, not, ◌&&◌, Option, Some, None, find, unwrap_or, if◌then◌else◌}
-use Rattle.pg_gf2.specs.Prelude.{range_with_len, FinSet, contains, remove, nat_cmp, minus, either, Side, X, Y, Position, is_free, left_without}
+use Rattle.std.specs.Prelude.{ℕ, Bool, not, ◌&&◌, Option, Some, None, find, unwrap_or}
+use Rattle.std.specs.Prelude.{if◌then◌else◌}
+use Rattle.pg_gf2.specs.Prelude.{range_with_len, FinSet, contains, remove, nat_cmp, minus, either}
+use Rattle.pg_gf2.specs.Prelude.{Side, X, Y, Position, is_free, left_without}
 use Rattle.pg_gf2.specs.declared.plan.VecPlan.{VecPlan}
 
 -- the claimed vector, and the plan that is left

@@ -1,7 +1,9 @@
 -- Certificates of games on vectors: what a valid claim has, and the first flaw of one that isn't
 -- valid.
-use Rattle.std.specs.Prelude.{◌≡◌, ◌<◌, ◌⊎◌, ℕ, Bool, true, false, if◌then◌else◌, length, slice_get, Option, None, Some}
-use Rattle.pg_gf2.specs.Prelude.{FinSet, insert, nat_cmp, AreBelow, Win, Side, X, Y, Body, Trees, Cuts, Node, Cert, Claim, Version, One}
+use Rattle.std.specs.Prelude.{◌≡◌, ◌<◌, ◌⊎◌, ℕ, Bool, true, false, if◌then◌else◌, length, slice_get}
+use Rattle.std.specs.Prelude.{Option, None, Some}
+use Rattle.pg_gf2.specs.Prelude.{FinSet, insert, nat_cmp, AreBelow, Win, Side, X, Y, Body, Trees}
+use Rattle.pg_gf2.specs.Prelude.{Cuts, Node, Cert, Claim, Version, One}
 use Rattle.pg_gf2.specs.declared.checked.Faulty.{Faulty}
 use Rattle.pg_gf2.specs.declared.flaw.VecFlaw.{VecFlaw}
 use Rattle.pg_gf2.specs.declared.flaw.VecFlaw.TheVariants as flaws

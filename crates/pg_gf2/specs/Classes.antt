@@ -1,6 +1,7 @@
 -- The classes of games on vectors.
 use Rattle.std.specs.Prelude.{ℕ, ◌++◌, ◌∷◌, [], List, length, Option}
-use Rattle.pg_gf2.specs.Prelude.{FinSet, nat_cmp, Side, X, Y, Position, Rules, value_by, span_rules, AreSpanTrees, AreSpanCuts, Class, SpanSetsHold}
+use Rattle.pg_gf2.specs.Prelude.{FinSet, nat_cmp, Side, X, Y, Position, Rules, value_by, span_rules}
+use Rattle.pg_gf2.specs.Prelude.{AreSpanTrees, AreSpanCuts, Class, SpanSetsHold}
 use Rattle.pg_game.specs.Class.{Class as Named, class_by}
 use Rattle.pg_gf2.specs.declared.game.VecGame.{VecGame}
 use Rattle.pg_gf2.specs.Vectors.{vector_spans}

@@ -1,5 +1,6 @@
 -- The laws of a ground of vectors.
-use Rattle.std.proofs.Common.{◌≡◌, ℕ, ◌<◌, ◌≤◌, ◌+◌, Bool, zero, suc, List, [], ◌∷◌, length, refl, arith}
+use Rattle.std.proofs.Common.{◌≡◌, ℕ, ◌<◌, ◌≤◌, ◌+◌, Bool, zero, suc, List, [], ◌∷◌, length, refl}
+use Rattle.std.proofs.Common.{arith}
 use Rattle.pg_gf2.specs.Prelude.{IsBelow, IsSpan}
 use Rattle.pg_base.specs.declared.limits.TheConstants.{MAX_MEMBERS}
 use Rattle.pg_gf2.specs.declared.game.TheConstants.{MAX_VECTORS}

@@ -5,7 +5,8 @@ unfoldable pub use Rattle.pg_base.specs.Sets.{either, outside}
 pub use Rattle.pg_base.specs.declared.goal.Goal.TheVariants.{Win}
 pub use Rattle.pg_base.specs.declared.side.Side.{Side}
 pub use Rattle.pg_base.specs.declared.side.Side.TheVariants.{X, Y}
-pub use Rattle.pg_cert.specs.Limits.{ArePoints, IsBody, IsClaim, IsNode, IsOfVersion, IsTurn, IsWithinLimits, has_body, node_count}
+pub use Rattle.pg_cert.specs.Limits.{ArePoints, IsBody, IsClaim, IsNode, IsOfVersion, IsTurn}
+pub use Rattle.pg_cert.specs.Limits.{IsWithinLimits, has_body, node_count}
 pub use Rattle.pg_cert.specs.declared.cert.Cert.{Cert}
 pub use Rattle.pg_cert.specs.declared.cert.Claim.{Claim}
 pub use Rattle.pg_cert.specs.declared.cert.Version.{Version}
@@ -25,7 +26,8 @@ pub use Rattle.pg_lehman.specs.Sets.{named}
 pub use Rattle.pg_lehman.specs.SpanSets.{SpanSetsHold}
 unfoldable pub use Rattle.pg_lehman.specs.SpanSets.{free_with_e}
 pub use Rattle.pg_lehman.specs.declared.class.Class.{Class}
-pub use Rattle.pg_switch.specs.Claims.{AreFree, AreFreeOrE, AreSpanCuts, AreSpanTrees, IsPlace, IsSpanBridge, kept, left_without, span_rules}
+pub use Rattle.pg_switch.specs.Claims.{AreFree, AreFreeOrE, AreSpanCuts, AreSpanTrees, IsPlace}
+pub use Rattle.pg_switch.specs.Claims.{IsSpanBridge, kept, left_without, span_rules}
 pub use Rattle.std.specs.FinSet.{FinSet, contains, contains-empty, empty, insert, remove}
 pub use Rattle.std.specs.Int.{bit_at, w128}
 pub use Rattle.std.specs.Int.Bits.{xor_assoc, xor_self, xor_zero_l, xor_zero_r}

@@ -1,6 +1,7 @@
 -- Rows of an elimination: what is left of a vector after them, and the members of a base that they
 -- are sums of.
-use Rattle.std.specs.Prelude.{◌≡◌, ℕ, ◌<◌, Bool, true, ◌==◌, if◌then◌else◌, List, [], ◌∷◌, ◌++◌, length, get_or, bit_xor}
+use Rattle.std.specs.Prelude.{◌≡◌, ℕ, ◌<◌, Bool, true, ◌==◌, if◌then◌else◌, List, [], ◌∷◌, ◌++◌}
+use Rattle.std.specs.Prelude.{length, get_or, bit_xor}
 use Rattle.pg_gf2.specs.Prelude.{All, bit_at, FinSet, contains, nat_cmp, IsWithin}
 use Rattle.pg_gf2.specs.Vectors.{total, is_sum, differ}
 use Rattle.pg_gf2.specs.declared.row.Row.{Row}

@@ -1,6 +1,7 @@
 -- Vectors over two elements, as numbers that are added bit by bit without carry, and what sets of
 -- them span.
-use Rattle.std.specs.Prelude.{◌≡◌, ℕ, zero, suc, Bool, ◌&&◌, ◌||◌, ◌==◌, if◌then◌else◌, List, length, slice_index_or, bit_xor}
+use Rattle.std.specs.Prelude.{◌≡◌, ℕ, zero, suc, Bool, ◌&&◌, ◌||◌, ◌==◌, if◌then◌else◌, List}
+use Rattle.std.specs.Prelude.{length, slice_index_or, bit_xor}
 use Rattle.pg_gf2.specs.Prelude.{IsWithin, either, outside, Matroid}
 
 -- the sum of the vectors of the set whose numbers are below n

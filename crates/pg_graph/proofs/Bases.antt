@@ -1,6 +1,9 @@
 -- Spanning over a fixed set, and circuits within a base.
 use Rattle.std.proofs.Common.{◌≡◌, ℕ, Bool, true, false, inl, inr, arith, sym, ◌≢◌, subst}
-use Rattle.pg_graph.proofs.Common.{both_ways, cases_eq, false_from_ne_true, true_from_ne_false, plus, minus, either, IsWithin, minus_parts, minus_from, plus_cases, plus_old, plus_new, either_cases, either_left, either_right, sets}
+use Rattle.pg_graph.proofs.Common.{both_ways, cases_eq, false_from_ne_true, true_from_ne_false}
+use Rattle.pg_graph.proofs.Common.{plus, minus, either, IsWithin, minus_parts, minus_from}
+use Rattle.pg_graph.proofs.Common.{plus_cases, plus_old, plus_new, either_cases, either_left}
+use Rattle.pg_graph.proofs.Common.{either_right, sets}
 use Rattle.pg_graph.specs.Span.{IsSpan, circuit}
 use Rattle.pg_graph.proofs.Swap.{spans_mono, spans_less, spans_trade}
 use Rattle.pg_graph.proofs.Circuit.{spans_through, circuit_parts, circuit_from}

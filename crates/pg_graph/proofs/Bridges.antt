@@ -1,6 +1,11 @@
 -- Bridges of a set of edges while its members come in one after the other.
-use Rattle.std.proofs.Common.{◌≡◌, ℕ, ◌<◌, ◌+◌, Bool, true, false, inl, inr, arith, sym, ap, ◌∙◌, subst}
-use Rattle.pg_graph.proofs.Common.{cases_Bool, both_ways, false_from_ne_true, plus, minus, both, either, outside, below, IsWithin, IsBelow, below_parts, below_from, below_in, below_out, same_sets, minus_parts, minus_from, both_parts, both_from, outside_parts, outside_from, either_cases, either_left, either_right, plus_cases, sets}
+use Rattle.std.proofs.Common.{◌≡◌, ℕ, ◌<◌, ◌+◌, Bool, true, false, inl, inr, arith, sym, ap, ◌∙◌}
+use Rattle.std.proofs.Common.{subst}
+use Rattle.pg_graph.proofs.Common.{cases_Bool, both_ways, false_from_ne_true, plus, minus, both}
+use Rattle.pg_graph.proofs.Common.{either, outside, below, IsWithin, IsBelow, below_parts}
+use Rattle.pg_graph.proofs.Common.{below_from, below_in, below_out, same_sets, minus_parts}
+use Rattle.pg_graph.proofs.Common.{minus_from, both_parts, both_from, outside_parts, outside_from}
+use Rattle.pg_graph.proofs.Common.{either_cases, either_left, either_right, plus_cases, sets}
 use Rattle.pg_graph.specs.declared.graph.Graph.{Graph}
 use Rattle.pg_graph.specs.Graph.{JoinsEndsOf, IsBridge, first_end_of, second_end_of, spans_in}
 use Rattle.pg_graph.proofs.GraphLemmas.{IsSpan-graph, unspanned-from, unspanned-apart}

@@ -1,6 +1,11 @@
 -- Circuits, and members that a set can do without.
-use Rattle.std.proofs.Common.{◌≡◌, ℕ, Bool, true, false, inl, inr, refl, arith, sym, ◌≢◌, ◌<◌, subst, ltb, not, ◌&&◌, suc, zero}
-use Rattle.pg_graph.proofs.Common.{both_ways, cases_Bool, cases_eq, cases_lt, false_from_ne_true, true_from_ne_false, and_parts, and_from, and_cases, and_left, and_right, not-true, not_from_false, lt-ltb, le-ltb, plus, minus, IsWithin, IsBelow, cut_below, minus_from, plus_cases, plus_old, plus_new, sets}
+use Rattle.std.proofs.Common.{◌≡◌, ℕ, Bool, true, false, inl, inr, refl, arith, sym, ◌≢◌, ◌<◌}
+use Rattle.std.proofs.Common.{subst, ltb, not, ◌&&◌, suc, zero}
+use Rattle.pg_graph.proofs.Common.{both_ways, cases_Bool, cases_eq, cases_lt, false_from_ne_true}
+use Rattle.pg_graph.proofs.Common.{true_from_ne_false, and_parts, and_from, and_cases, and_left}
+use Rattle.pg_graph.proofs.Common.{and_right, not-true, not_from_false, lt-ltb, le-ltb, plus, minus}
+use Rattle.pg_graph.proofs.Common.{IsWithin, IsBelow, cut_below, minus_from, plus_cases, plus_old}
+use Rattle.pg_graph.proofs.Common.{plus_new, sets}
 use Rattle.pg_graph.specs.Span.{IsSpan, IsBase, swapped, circuit}
 use Rattle.pg_graph.proofs.Swap.{spans_mono, spans_less, spans_trade}
 

@@ -1,6 +1,9 @@
 -- Sets of trees and sets of cuts out of two settled bases.
 use Rattle.std.proofs.Common.{◌≡◌, ℕ, Bool, true, false, inl, inr, sym, ◌≢◌, subst}
-use Rattle.pg_graph.proofs.Common.{both_ways, cases_Bool, false_from_ne_true, true_from_ne_false, minus, both, either, outside, IsWithin, IsBelow, minus_parts, minus_from, both_parts, both_from, either_cases, either_left, either_right, outside_parts, outside_from}
+use Rattle.pg_graph.proofs.Common.{both_ways, cases_Bool, false_from_ne_true, true_from_ne_false}
+use Rattle.pg_graph.proofs.Common.{minus, both, either, outside, IsWithin, IsBelow, minus_parts}
+use Rattle.pg_graph.proofs.Common.{minus_from, both_parts, both_from, either_cases, either_left}
+use Rattle.pg_graph.proofs.Common.{either_right, outside_parts, outside_from}
 use Rattle.pg_graph.specs.Span.{IsSpan, IsBase, IsReached, IsTrees, IsCuts, circuit}
 use Rattle.pg_graph.proofs.Swap.{spans_mono}
 use Rattle.pg_graph.proofs.Circuit.{spans-circuit, circuit_parts}

@@ -1,5 +1,6 @@
 -- Edges that leave a set of vertices.
-use Rattle.std.proofs.Common.{◌≡◌, ◌≢◌, ℕ, Bool, true, false, List, [], ◌∷◌, inl, inr, sym, ◌∙◌, subst}
+use Rattle.std.proofs.Common.{◌≡◌, ◌≢◌, ℕ, Bool, true, false, List, [], ◌∷◌, inl, inr, sym, ◌∙◌}
+use Rattle.std.proofs.Common.{subst}
 use Rattle.pg_graph.proofs.Common.{both_ways, cases_Bool, either, either_cases}
 use Rattle.pg_graph.specs.Walks.{IsWalk, IsJoined}
 

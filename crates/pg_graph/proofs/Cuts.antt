@@ -1,6 +1,11 @@
 -- Two sets that bridge each other, after an edge was lost and one was claimed.
-use Rattle.std.proofs.Common.{◌≡◌, ℕ, Bool, true, false, inl, inr, arith, ◌≢◌, ◌<◌, subst, not, ◌&&◌}
-use Rattle.pg_graph.proofs.Common.{both_ways, cases_Bool, cases_eq, false_from_ne_true, true_from_ne_false, and_parts, and_from, not-true, not_from_false, plus, minus, outside, cut_below, IsWithin, IsBelow, minus_parts, minus_from, plus_cases, plus_old, plus_new, outside_parts, outside_from, sets, find_below}
+use Rattle.std.proofs.Common.{◌≡◌, ℕ, Bool, true, false, inl, inr, arith, ◌≢◌, ◌<◌, subst, not}
+use Rattle.std.proofs.Common.{◌&&◌}
+use Rattle.pg_graph.proofs.Common.{both_ways, cases_Bool, cases_eq, false_from_ne_true}
+use Rattle.pg_graph.proofs.Common.{true_from_ne_false, and_parts, and_from, not-true}
+use Rattle.pg_graph.proofs.Common.{not_from_false, plus, minus, outside, cut_below, IsWithin}
+use Rattle.pg_graph.proofs.Common.{IsBelow, minus_parts, minus_from, plus_cases, plus_old, plus_new}
+use Rattle.pg_graph.proofs.Common.{outside_parts, outside_from, sets, find_below}
 use Rattle.pg_graph.specs.Span.{IsSpan, IsCuts}
 use Rattle.pg_graph.proofs.Swap.{spans_mono, spans_less, spans_trade}
 use Rattle.pg_graph.proofs.Circuit.{spans_cut, cut_parts}

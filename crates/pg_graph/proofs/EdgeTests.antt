@@ -1,6 +1,8 @@
 -- The tests of crossing and parting edges say what walks say.
 use Rattle.std.proofs.Common.{◌≡◌, ◌≢◌, ℕ, Bool, true, false, [], refl, inl, inr, sym, ◌∙◌}
-use Rattle.pg_graph.proofs.Common.{cases_Bool, both_ways, and_parts, and_from, or_cases, or_left, or_right, false_from_ne_true, true_from_ne_false, not_from_false, not-true, minus, either, minus_parts}
+use Rattle.pg_graph.proofs.Common.{cases_Bool, both_ways, and_parts, and_from, or_cases, or_left}
+use Rattle.pg_graph.proofs.Common.{or_right, false_from_ne_true, true_from_ne_false, not_from_false}
+use Rattle.pg_graph.proofs.Common.{not-true, minus, either, minus_parts}
 use Rattle.pg_graph.specs.Graph.{IsJoinedIn, joins_in, spans_in, first_end_of, second_end_of}
 use Rattle.pg_graph.specs.Joiner.{AreEdges, Crosses, crosses, Parts, parts}
 use Rattle.pg_graph.specs.declared.graph.Graph.{Graph}

@@ -2,7 +2,8 @@
 use Rattle.std.proofs.Common.{◌≡◌, ℕ, ◌<◌, ◌↔◌, Bool, ◌⊎◌, eqb, cond, refl, inl, inr, sym, ap, ◌∙◌}
 use Rattle.pg_graph.proofs.Common.{cases_eq, eq-eqb, ne_eqb, plus, plus_old, plus_new}
 use Rattle.pg_graph.specs.Walks.{IsJoined}
-use Rattle.pg_graph.proofs.WalkLemmas.{joined_on, joined_edge, joined_edge_back, joined_more, by_one}
+use Rattle.pg_graph.proofs.WalkLemmas.{joined_on, joined_edge, joined_edge_back, joined_more}
+use Rattle.pg_graph.proofs.WalkLemmas.{by_one}
 
 -- the label lo in place of the label hi
 module _ (lo hi : ℕ) where

@@ -1,6 +1,12 @@
 -- Bases have the same number of members, and settled bases share the fewest.
-use Rattle.std.proofs.Common.{◌≡◌, ℕ, Bool, true, false, ◌⊎◌, inl, inr, refl, arith, sym, ◌≢◌, ◌<◌, ◌≤◌, ◌+◌, subst, not, ◌&&◌, ◌||◌, suc, zero}
-use Rattle.pg_graph.proofs.Common.{both_ways, cases_Bool, false_from_ne_true, true_from_ne_false, and_parts, and_from, not-true, not_from_false, plus, minus, both, either, outside, IsWithin, IsBelow, count, one_if, minus_parts, minus_from, plus_cases, both_parts, both_from, either_left, either_right, outside_parts, outside_from, sets, find_below, count_le, count_plus, count_minus, count_both_either}
+use Rattle.std.proofs.Common.{◌≡◌, ℕ, Bool, true, false, ◌⊎◌, inl, inr, refl, arith, sym, ◌≢◌, ◌<◌}
+use Rattle.std.proofs.Common.{◌≤◌, ◌+◌, subst, not, ◌&&◌, ◌||◌, suc, zero}
+use Rattle.pg_graph.proofs.Common.{both_ways, cases_Bool, false_from_ne_true, true_from_ne_false}
+use Rattle.pg_graph.proofs.Common.{and_parts, and_from, not-true, not_from_false, plus, minus, both}
+use Rattle.pg_graph.proofs.Common.{either, outside, IsWithin, IsBelow, count, one_if, minus_parts}
+use Rattle.pg_graph.proofs.Common.{minus_from, plus_cases, both_parts, both_from, either_left}
+use Rattle.pg_graph.proofs.Common.{either_right, outside_parts, outside_from, sets, find_below}
+use Rattle.pg_graph.proofs.Common.{count_le, count_plus, count_minus, count_both_either}
 use Rattle.pg_graph.specs.Span.{IsSpan, IsBase, IsReached, swapped, circuit}
 use Rattle.pg_graph.proofs.Swap.{spans_mono, spans_less, swap_free}
 use Rattle.pg_graph.proofs.Circuit.{spans-circuit, circuit_parts}

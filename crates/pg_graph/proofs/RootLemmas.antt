@@ -1,6 +1,8 @@
 -- Where the steps to parents lead after a step was shortened or two roots were united.
-use Rattle.std.proofs.Common.{◌≡◌, ◌≢◌, ℕ, ◌<◌, ◌≤◌, eqb, cond, List, length, get_or, refl, arith, inl, inr, sym, ◌∙◌, subst, zero, suc}
-use Rattle.pg_graph.proofs.Common.{set, length-set, cases_eq, cases_Bool, eq-eqb, ne_eqb, get_or-set_other, get_or-set_same}
+use Rattle.std.proofs.Common.{◌≡◌, ◌≢◌, ℕ, ◌<◌, ◌≤◌, eqb, cond, List, length, get_or, refl, arith}
+use Rattle.std.proofs.Common.{inl, inr, sym, ◌∙◌, subst, zero, suc}
+use Rattle.pg_graph.proofs.Common.{set, length-set, cases_eq, cases_Bool, eq-eqb, ne_eqb}
+use Rattle.pg_graph.proofs.Common.{get_or-set_other, get_or-set_same}
 use Rattle.pg_graph.specs.Roots.{climb, root_of, IsUpward, SameRoots}
 
 climb_own : (parents : List ℕ) (n v : ℕ) → get_or parents v 0 ≡ v → climb parents n v ≡ v

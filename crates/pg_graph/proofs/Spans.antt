@@ -3,7 +3,8 @@ use Rattle.std.proofs.Common.{◌≡◌, ℕ, ◌≤◌, Bool, true, false, refl
 use Rattle.pg_graph.proofs.Common.{cases_lt, both_ways, plus, below, plus_old, plus_new, below_from}
 use Rattle.pg_graph.specs.Span.{IsSpan}
 use Rattle.pg_graph.specs.Walks.{IsJoined, edge_spans}
-use Rattle.pg_graph.proofs.WalkLemmas.{joined_self, joined_on, joined_edge, joined_back, joined_by, joined_more, ByOne, by_one, joins_sound, joins_complete}
+use Rattle.pg_graph.proofs.WalkLemmas.{joined_self, joined_on, joined_edge, joined_back, joined_by}
+use Rattle.pg_graph.proofs.WalkLemmas.{joined_more, ByOne, by_one, joins_sound, joins_complete}
 
 -- numbers from n on stand for loops
 module _ (a b : ℕ → ℕ) (n : ℕ) (loops : (k : ℕ) → n ≤ k → a k ≡ b k) where

@@ -1,5 +1,6 @@
 -- Edges with exactly one end among the vertices below a root.
-use Rattle.std.proofs.Common.{◌≡◌, ℕ, ◌<◌, ◌↔◌, Bool, not, IsTrue, eqb, List, length, refl, inl, inr, sym, ◌∙◌}
+use Rattle.std.proofs.Common.{◌≡◌, ℕ, ◌<◌, ◌↔◌, Bool, not, IsTrue, eqb, List, length, refl, inl}
+use Rattle.std.proofs.Common.{inr, sym, ◌∙◌}
 use Rattle.pg_graph.proofs.Common.{beq, cases_eq, eq-eqb, ne_eqb}
 use Rattle.pg_graph.specs.Graph.{IsJoinedIn, first_end_of, second_end_of}
 use Rattle.pg_graph.specs.Joiner.{Crosses}

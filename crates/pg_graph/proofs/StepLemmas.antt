@@ -1,5 +1,6 @@
 -- Roots that stand for joined vertices, a union at a time.
-use Rattle.std.proofs.Common.{◌≡◌, ◌≢◌, ℕ, ◌<◌, ◌≤◌, ◌↔◌, IsTrue, Bool, false, ◌⊎◌, eqb, cond, List, length, get_or, arith, sym, ap, ◌∙◌, subst}
+use Rattle.std.proofs.Common.{◌≡◌, ◌≢◌, ℕ, ◌<◌, ◌≤◌, ◌↔◌, IsTrue, Bool, false, ◌⊎◌, eqb, cond, List}
+use Rattle.std.proofs.Common.{length, get_or, arith, sym, ap, ◌∙◌, subst}
 use Rattle.pg_graph.proofs.Common.{set, plus}
 use Rattle.pg_graph.specs.declared.graph.Graph.{Graph}
 use Rattle.pg_graph.specs.Graph.{IsGraph, JoinsEndsOf, edge_count, first_end_of, second_end_of}

@@ -1,6 +1,7 @@
 -- Bases after an element was swapped.
 use Rattle.std.proofs.Common.{◌≡◌, ℕ, Bool, true, false, inl, inr, arith, sym, ◌≢◌, subst}
-use Rattle.pg_graph.proofs.Common.{both_ways, cases_eq, false_from_ne_true, plus, minus, IsWithin, minus_parts, minus_from, plus_cases, plus_old, sets}
+use Rattle.pg_graph.proofs.Common.{both_ways, cases_eq, false_from_ne_true, plus, minus, IsWithin}
+use Rattle.pg_graph.proofs.Common.{minus_parts, minus_from, plus_cases, plus_old, sets}
 use Rattle.pg_graph.specs.Span.{IsSpan, IsBase, swapped}
 
 module _ (spans : (ℕ → Bool) → ℕ → Bool) (law : IsSpan spans) where

@@ -1,6 +1,9 @@
 -- Trees in play: an answer to the loss of an edge keeps two sets that span each other.
 use Rattle.std.proofs.Common.{◌≡◌, ℕ, Bool, true, not, ◌&&◌, inl, inr, arith}
-use Rattle.pg_graph.proofs.Common.{both_ways, cases_Bool, false_from_ne_true, true_from_ne_false, and_parts, and_from, not-true, not_from_false, plus, minus, either, IsWithin, IsBelow, minus_parts, either_cases, find_below, sets}
+use Rattle.pg_graph.proofs.Common.{both_ways, cases_Bool, false_from_ne_true, true_from_ne_false}
+use Rattle.pg_graph.proofs.Common.{and_parts, and_from, not-true, not_from_false, plus, minus}
+use Rattle.pg_graph.proofs.Common.{either, IsWithin, IsBelow, minus_parts, either_cases, find_below}
+use Rattle.pg_graph.proofs.Common.{sets}
 use Rattle.pg_graph.specs.Graph.{edge_count, spans_in, first_end_of, second_end_of}
 use Rattle.pg_graph.specs.Joiner.{AreEdges, Crosses}
 use Rattle.pg_graph.specs.Span.{IsSpan, IsTrees}
@@ -9,7 +12,8 @@ use Rattle.pg_graph.proofs.EdgeTests.{crosses-unspanned, uncrossed_joins}
 use Rattle.pg_graph.proofs.FreeLemmas.{still_free, still_free_without, free_again}
 use Rattle.pg_graph.proofs.GraphLemmas.{IsSpan-graph, spans_in-sound, spans_in-complete}
 use Rattle.pg_graph.proofs.Swap.{spans_mono}
-use Rattle.pg_graph.proofs.Trees.{IsTrees-other, IsTrees-dropped, IsTrees-claimed, IsTrees-answered, spans_none}
+use Rattle.pg_graph.proofs.Trees.{IsTrees-other, IsTrees-dropped, IsTrees-claimed, IsTrees-answered}
+use Rattle.pg_graph.proofs.Trees.{spans_none}
 
 -- ---- the sets of a graph
 

@@ -1,6 +1,8 @@
 -- Two sets that span each other, after an edge was lost and one was claimed.
 use Rattle.std.proofs.Common.{◌≡◌, ℕ, Bool, true, false, inl, inr, arith, subst}
-use Rattle.pg_graph.proofs.Common.{both_ways, cases_eq, false_from_ne_true, plus, minus, either, IsWithin, minus_parts, minus_from, plus_new, either_cases, either_left, sets}
+use Rattle.pg_graph.proofs.Common.{both_ways, cases_eq, false_from_ne_true, plus, minus, either}
+use Rattle.pg_graph.proofs.Common.{IsWithin, minus_parts, minus_from, plus_new, either_cases}
+use Rattle.pg_graph.proofs.Common.{either_left, sets}
 use Rattle.pg_graph.specs.Span.{IsSpan, IsTrees}
 use Rattle.pg_graph.proofs.Swap.{spans_mono, spans_trade}
 

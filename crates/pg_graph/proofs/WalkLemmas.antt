@@ -1,6 +1,9 @@
 -- Vertices that walks join, and the test that says the same.
-use Rattle.std.proofs.Common.{◌≡◌, ℕ, ◌<◌, Bool, true, false, ◌⊎◌, List, [], ◌∷◌, ◌++◌, refl, arith, inl, inr, sym, ap, ◌∙◌, subst, zero, suc}
-use Rattle.pg_graph.proofs.Common.{cases_Bool, both_ways, false_from_ne_true, and_parts, and_from, or_cases, or_left, or_right, eqb-true, eq-eqb, plus, below, IsWithin, plus_cases, sets, below_parts, below_from}
+use Rattle.std.proofs.Common.{◌≡◌, ℕ, ◌<◌, Bool, true, false, ◌⊎◌, List, [], ◌∷◌, ◌++◌, refl, arith}
+use Rattle.std.proofs.Common.{inl, inr, sym, ap, ◌∙◌, subst, zero, suc}
+use Rattle.pg_graph.proofs.Common.{cases_Bool, both_ways, false_from_ne_true, and_parts, and_from}
+use Rattle.pg_graph.proofs.Common.{or_cases, or_left, or_right, eqb-true, eq-eqb, plus, below}
+use Rattle.pg_graph.proofs.Common.{IsWithin, plus_cases, sets, below_parts, below_from}
 use Rattle.pg_graph.specs.Walks.{IsWalk, IsJoined, joins}
 
 module _ (a b : ℕ → ℕ) where

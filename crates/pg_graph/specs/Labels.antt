@@ -1,5 +1,6 @@
 -- Labels of vertices: one for the vertices that are joined.
-use Rattle.std.specs.Prelude.{◌≡◌, ◌≢◌, ℕ, ◌<◌, ◌⊎◌, ◌==◌, ◌↔◌, Bool, true, cond, List, length, slice_index}
+use Rattle.std.specs.Prelude.{◌≡◌, ◌≢◌, ℕ, ◌<◌, ◌⊎◌, ◌==◌, ◌↔◌, Bool, true, cond, List, length}
+use Rattle.std.specs.Prelude.{slice_index}
 use Rattle.pg_graph.specs.Walks.{IsJoined}
 use Rattle.pg_graph.specs.declared.graph.Graph.{Graph}
 use Rattle.pg_graph.specs.Graph.{first_end_of, second_end_of, joins_in}

@@ -1,6 +1,7 @@
 -- Walks along edges. Edge k has the ends a k and b k, and a set of edges is a test of their
 -- numbers.
-use Rattle.std.specs.Prelude.{◌≡◌, ℕ, Bool, true, ◌⊎◌, ◌&&◌, ◌||◌, ◌==◌, zero, suc, List, [], ◌∷◌, slice_index_or}
+use Rattle.std.specs.Prelude.{◌≡◌, ℕ, Bool, true, ◌⊎◌, ◌&&◌, ◌||◌, ◌==◌, zero, suc, List, [], ◌∷◌}
+use Rattle.std.specs.Prelude.{slice_index_or}
 
 -- the edges of the list, each one of the set, walk from u to v
 abbrev pub IsWalk : (ℕ → ℕ) → (ℕ → ℕ) → (ℕ → Bool) → List ℕ → ℕ → ℕ → Type 0

@@ -1,23 +1,38 @@
 -- A printed certificate with images is read again as the same certificate.
-use Rattle.std.proofs.Common.{◌≡◌, ℕ, suc, ◌+◌, ◌-◌, ◌<◌, ◌≤◌, lit<, true, false, List, [], ◌∷◌, ◌++◌, length, arith, refl, sym, ap, subst, ◌∙◌, append_assoc, Some, None, Result, Ok}
+use Rattle.std.proofs.Common.{◌≡◌, ℕ, suc, ◌+◌, ◌-◌, ◌<◌, ◌≤◌, lit<, true, false, List, [], ◌∷◌}
+use Rattle.std.proofs.Common.{◌++◌, length, arith, refl, sym, ap, subst, ◌∙◌, append_assoc, Some}
+use Rattle.std.proofs.Common.{None, Result, Ok}
 use Rattle.std.specs.Prelude.{◌==◌, nat_lt, codes}
-use Rattle.pg_image.proofs.Common.{FinSet, decimal, flat_map, AllByRecursion, nat_cmp, bytes_eq, nat_tests, append-nil, All-from_recursion, recursion_from_All, sum_by-cons, Side, and_then, reading, Bytes, Four, Lacks, lines, spaced, reads_on, is_over, IsNode, has_body, set_words, body_name, body_words, body_text, turn_word, count_words, Claim, Version, Two, Body}
+use Rattle.pg_image.proofs.Common.{FinSet, decimal, flat_map, AllByRecursion, nat_cmp, bytes_eq}
+use Rattle.pg_image.proofs.Common.{nat_tests, append-nil, All-from_recursion, recursion_from_All}
+use Rattle.pg_image.proofs.Common.{sum_by-cons, Side, and_then, reading, Bytes, Four, Lacks, lines}
+use Rattle.pg_image.proofs.Common.{spaced, reads_on, is_over, IsNode, has_body, set_words}
+use Rattle.pg_image.proofs.Common.{body_name, body_words, body_text, turn_word, count_words, Claim}
+use Rattle.pg_image.proofs.Common.{Version, Two, Body}
 use Rattle.pg_text.proofs.FirstLine.{lines_feed, no_lines}
-use Rattle.pg_text.proofs.PlainWords.{IsWord, IsQuiet, decimal_is_word, spaced_quiet, words_spaced, quiet_lacks_feed}
+use Rattle.pg_text.proofs.PlainWords.{IsWord, IsQuiet, decimal_is_word, spaced_quiet, words_spaced}
+use Rattle.pg_text.proofs.PlainWords.{quiet_lacks_feed}
 use Rattle.pg_cert.specs.declared.node.Body.TheVariants as bodies
 use Rattle.pg_image.proofs.Common.{Node, Step, start, behind, end_fault, Fault, Head, Due}
 use Rattle.pg_cert_files.specs.declared.progress.Due.TheVariants as due
 use Rattle.pg_image.proofs.Common.{behind_more, number_of, GridMap}
-use Rattle.pg_cert_files.proofs.Back.{claim_step_back, count_step_back, node_step_back, node_text_is, five_word, nodes_word, goal_is_word}
-use Rattle.pg_cert_lines.proofs.NodeBack.{node_line_text, side_is_word, name_is_word, body_are_words, body_quiet, line_with, line_cut, line_lacks_feed, node_lacks_feed, turn_back, node_is_back}
+use Rattle.pg_cert_files.proofs.Back.{claim_step_back, count_step_back, node_step_back}
+use Rattle.pg_cert_files.proofs.Back.{node_text_is, five_word, nodes_word, goal_is_word}
+use Rattle.pg_cert_lines.proofs.NodeBack.{node_line_text, side_is_word, name_is_word}
+use Rattle.pg_cert_lines.proofs.NodeBack.{body_are_words, body_quiet, line_with, line_cut}
+use Rattle.pg_cert_lines.proofs.NodeBack.{line_lacks_feed, node_lacks_feed, turn_back, node_is_back}
 use Rattle.pg_maps.proofs.Numbers.{numbered-number, number-few}
-use Rattle.pg_image.specs.Limits.{IsMarked, IsImageNode, IsImageClaim, IsImageWithinLimits, image_node_count}
-use Rattle.pg_image.specs.Print.{position_fields, image_words, image_text, image_node_text, image_claim_words, image_claim_text, image_header, printed_image_certificate}
+use Rattle.pg_image.specs.Limits.{IsMarked, IsImageNode, IsImageClaim, IsImageWithinLimits}
+use Rattle.pg_image.specs.Limits.{image_node_count}
+use Rattle.pg_image.specs.Print.{position_fields, image_words, image_text, image_node_text}
+use Rattle.pg_image.specs.Print.{image_claim_words, image_claim_text, image_header}
+use Rattle.pg_image.specs.Print.{printed_image_certificate}
 use Rattle.pg_image.specs.declared.cert.ImageCert.{ImageCert}
 use Rattle.pg_image.specs.declared.cert.ImageClaim.{ImageClaim}
 use Rattle.pg_image.specs.declared.node.ImageNode.{ImageNode}
 use Rattle.pg_image.specs.declared.node.ImageNode.TheVariants.{Plain, Image}
-use Rattle.pg_image.specs.ImageFile.{Draft, nothing, closed, with_node, with_part, node_added, line_due, after, ended, image_certificate}
+use Rattle.pg_image.specs.ImageFile.{Draft, nothing, closed, with_node, with_part, node_added}
+use Rattle.pg_image.specs.ImageFile.{line_due, after, ended, image_certificate}
 use Rattle.pg_image.specs.ImageLine.{ImageLine, begun_with, with_fields, image_line, image_said}
 use Rattle.pg_image.proofs.Shadows.{move_node, move_fits}
 use Rattle.pg_image.proofs.Whole.{fits_file, said_is}

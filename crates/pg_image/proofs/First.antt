@@ -1,7 +1,9 @@
 -- The fault that is told is the first.
-use Rattle.std.proofs.Common.{◌≡◌, ℕ, ◌+◌, inl, inr, [], ◌∷◌, length, refl, sym, ap, ◌∙◌, Option, Some, None, Result, Ok, Err, arith}
+use Rattle.std.proofs.Common.{◌≡◌, ℕ, ◌+◌, inl, inr, [], ◌∷◌, length, refl, sym, ap, ◌∙◌, Option}
+use Rattle.std.proofs.Common.{Some, None, Result, Ok, Err, arith}
 use Rattle.std.specs.Prelude.{nat_lt, not, is_none, is_err}
-use Rattle.pg_image.proofs.Common.{bytes_eq, cases_Bool, ltb-true, and_then, least, reading, Bytes, lines, first_fault, is_least, Two, Body}
+use Rattle.pg_image.proofs.Common.{bytes_eq, cases_Bool, ltb-true, and_then, least, reading, Bytes}
+use Rattle.pg_image.proofs.Common.{lines, first_fault, is_least, Two, Body}
 use Rattle.pg_cert.specs.declared.node.Body.TheVariants as bodies
 use Rattle.pg_image.proofs.Common.{Node, behind, step, end_fault, Shape, node_of, formed, Fault}
 use Rattle.pg_cert_files.specs.FirstFault.{line_faults as version_2_faults}
@@ -14,7 +16,8 @@ use Rattle.pg_cert_files.proofs.LeastFaults.{node_first, same, step_first, then_
 use Rattle.pg_image.specs.Print.{image_header}
 use Rattle.pg_image.specs.declared.node.ImageNode.{ImageNode}
 use Rattle.pg_image.specs.FirstFault.{node_faults, line_faults, IsFirstFault}
-use Rattle.pg_image.specs.ImageFile.{Draft, nothing, with_node, with_part, plain_line, node_added, line_due, after, ended, said, image_certificate}
+use Rattle.pg_image.specs.ImageFile.{Draft, nothing, with_node, with_part, plain_line, node_added}
+use Rattle.pg_image.specs.ImageFile.{line_due, after, ended, said, image_certificate}
 use Rattle.pg_image.specs.ImageLine.{ImageLine, image_line, move_shape, image_by, image_said}
 
 -- ---- the least of a line

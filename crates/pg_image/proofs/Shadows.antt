@@ -1,12 +1,17 @@
 -- A certificate with images as one of version 2: each image stands there as a move, of which the
 -- limits of the format ask the same.
-use Rattle.std.proofs.Common.{◌≡◌, ℕ, ◌<◌, List, [], ◌∷◌, ◌++◌, length, map, refl, sym, ap, ◌∙◌, Option, Some, None, arith, true}
+use Rattle.std.proofs.Common.{◌≡◌, ℕ, ◌<◌, List, [], ◌∷◌, ◌++◌, length, map, refl, sym, ap, ◌∙◌}
+use Rattle.std.proofs.Common.{Option, Some, None, arith, true}
 use Rattle.std.specs.Prelude.{fold}
-use Rattle.pg_image.proofs.Common.{FinSet, AllByRecursion, nat_cmp, append-nil, length-map, map-append, All-from_recursion, recursion_from_All, sum_by-cons, Side, IsNode, IsClaim, IsWithinLimits, has_body, node_count, Claim, Version, One, Two, Move, Node, Part}
+use Rattle.pg_image.proofs.Common.{FinSet, AllByRecursion, nat_cmp, append-nil, length-map}
+use Rattle.pg_image.proofs.Common.{map-append, All-from_recursion, recursion_from_All, sum_by-cons}
+use Rattle.pg_image.proofs.Common.{Side, IsNode, IsClaim, IsWithinLimits, has_body, node_count}
+use Rattle.pg_image.proofs.Common.{Claim, Version, One, Two, Move, Node, Part}
 use Rattle.pg_cert.specs.declared.part.Part.TheVariants as parts
 use Rattle.pg_image.proofs.Common.{Gathered, listed, Head, Progress}
 use Rattle.pg_cert_files.specs.CertFile.{with_part as gathered_with, closed as all_gathered}
-use Rattle.pg_image.specs.Limits.{IsMarked, IsImageNode, IsImageClaim, IsImageWithinLimits, image_node_count}
+use Rattle.pg_image.specs.Limits.{IsMarked, IsImageNode, IsImageClaim, IsImageWithinLimits}
+use Rattle.pg_image.specs.Limits.{image_node_count}
 use Rattle.pg_image.specs.declared.cert.ImageClaim.{ImageClaim}
 use Rattle.pg_image.specs.declared.node.ImageNode.{ImageNode}
 use Rattle.pg_image.specs.declared.node.ImageNode.TheVariants.{Plain, Image}

@@ -1,6 +1,7 @@
 -- From one member of a set to the next: there is none between.
 use Rattle.std.proofs.Common.{◌≡◌, ℕ, zero, suc, ◌+◌, ◌<◌, ◌≤◌, ◌-◌, false, arith, ap, ◌∙◌, sym}
-use Rattle.pg_image.proofs.Common.{FinSet, contains, nat_cmp, false_from_ne_true, points_below, members, IsLeastFrom}
+use Rattle.pg_image.proofs.Common.{FinSet, contains, nat_cmp, false_from_ne_true, points_below}
+use Rattle.pg_image.proofs.Common.{members, IsLeastFrom}
 use Rattle.pg_base.proofs.MemberLemmas.{points_without}
 
 points_gap : (s : FinSet nat_cmp) (n d : ℕ)

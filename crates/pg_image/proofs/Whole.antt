@@ -1,7 +1,8 @@
 -- What the lines say is what the file says.
 use Rattle.std.proofs.Common.{◌≡◌, ℕ, ◌+◌, ◌≤◌, false, List, length, Result, Ok, Err, refl, arith}
 use Rattle.std.specs.Prelude.{nat_lt}
-use Rattle.pg_image.proofs.Common.{nat_tests, and_then, reading, Bytes, lines, FileError, end_fault, Fault}
+use Rattle.pg_image.proofs.Common.{nat_tests, and_then, reading, Bytes, lines, FileError, end_fault}
+use Rattle.pg_image.proofs.Common.{Fault}
 use Rattle.pg_text.specs.Faults.{IsReadAs as IsReadBy}
 use Rattle.pg_text.specs.declared.error.FileError.TheVariants.{Bad, Memory}
 use Rattle.pg_cert_lines.specs.Views.{number_of}

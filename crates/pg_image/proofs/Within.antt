@@ -1,25 +1,35 @@
 -- A certificate that is read is within the limits.
-use Rattle.std.proofs.Common.{◌≡◌, ℕ, zero, suc, ◌+◌, inl, inr, List, [], ◌∷◌, ◌++◌, length, map, refl, sym, ap, subst, Option, Some, None, Result, Ok, Err, arith}
+use Rattle.std.proofs.Common.{◌≡◌, ℕ, zero, suc, ◌+◌, inl, inr, List, [], ◌∷◌, ◌++◌, length, map}
+use Rattle.std.proofs.Common.{refl, sym, ap, subst, Option, Some, None, Result, Ok, Err, arith}
 use Rattle.std.specs.Prelude.{IfOk, nat_lt, fold}
-use Rattle.pg_image.proofs.Common.{bytes_eq, and_then, go_on, reading, Bytes, lines, FileError, IsBody, IsNode, Claim, Version, Two, Body}
+use Rattle.pg_image.proofs.Common.{bytes_eq, and_then, go_on, reading, Bytes, lines, FileError}
+use Rattle.pg_image.proofs.Common.{IsBody, IsNode, Claim, Version, Two, Body}
 use Rattle.pg_cert.specs.declared.node.Body.TheVariants as bodies
 use Rattle.pg_image.proofs.Common.{Node, Part}
 use Rattle.pg_cert.specs.declared.part.Part.TheVariants as parts
-use Rattle.pg_image.proofs.Common.{Gathered, behind, step, end_fault, listed, Shape, turn_of, formed, IsReadAs, Fault}
+use Rattle.pg_image.proofs.Common.{Gathered, behind, step, end_fault, listed, Shape, turn_of}
+use Rattle.pg_image.proofs.Common.{formed, IsReadAs, Fault}
 use Rattle.pg_cert_files.specs.CertFile.{with_part as gathered_with, closed as all_gathered}
 use Rattle.pg_cert_lines.specs.declared.fault.Fault.TheVariants as faults
 use Rattle.pg_cert_lines.specs.declared.form.Form.TheVariants as forms
 use Rattle.pg_cert_files.specs.declared.progress.Due.{Due}
 use Rattle.pg_cert_files.specs.declared.progress.Due.TheVariants as due
-use Rattle.pg_image.proofs.Common.{Progress, Turn, AreTold, IsSound, Next, sound_headed, sound_step, node_comes, node_ends, behind_more, end_of, told_within, done, ok_is, err_not, then_ok, chosen, IsFit, IsRead, IsTold, formed_ok, with_form_ok, turn_ok, numbered}
+use Rattle.pg_image.proofs.Common.{Progress, Turn, AreTold, IsSound, Next, sound_headed, sound_step}
+use Rattle.pg_image.proofs.Common.{node_comes, node_ends, behind_more, end_of, told_within, done}
+use Rattle.pg_image.proofs.Common.{ok_is, err_not, then_ok, chosen, IsFit, IsRead, IsTold}
+use Rattle.pg_image.proofs.Common.{formed_ok, with_form_ok, turn_ok, numbered}
 use Rattle.pg_image.specs.Limits.{IsImageWithinLimits}
 use Rattle.pg_image.specs.Print.{image_header}
 use Rattle.pg_image.specs.declared.cert.ImageCert.{ImageCert}
 use Rattle.pg_image.specs.declared.node.ImageNode.{ImageNode}
 use Rattle.pg_image.specs.declared.node.ImageNode.TheVariants.{Image}
-use Rattle.pg_image.specs.ImageFile.{Draft, nothing, closed, header_line, with_node, with_part, plain_line, image_added, node_added, line_due, after, ended, said, image_certificate}
-use Rattle.pg_image.specs.ImageLine.{ImageLine, image_line, with_turn, move_shape, image_by, image_said}
-use Rattle.pg_image.proofs.Shadows.{shadow, claim_shadow, draft_shadow, closed_shadow, one_more, part_added, move_fits, limits_fit}
+use Rattle.pg_image.specs.ImageFile.{Draft, nothing, closed, header_line, with_node, with_part}
+use Rattle.pg_image.specs.ImageFile.{plain_line, image_added, node_added, line_due, after, ended}
+use Rattle.pg_image.specs.ImageFile.{said, image_certificate}
+use Rattle.pg_image.specs.ImageLine.{ImageLine, image_line, with_turn, move_shape, image_by}
+use Rattle.pg_image.specs.ImageLine.{image_said}
+use Rattle.pg_image.proofs.Shadows.{shadow, claim_shadow, draft_shadow, closed_shadow, one_more}
+use Rattle.pg_image.proofs.Shadows.{part_added, move_fits, limits_fit}
 
 -- ---- the line of an image
 

@@ -1,5 +1,6 @@
 -- What the first fault of a file of version 3 is, in words of its lines.
-use Rattle.std.specs.Prelude.{◌≡◌, ℕ, ◌+◌, ◌⊎◌, Bool, not, is_none, is_err, List, [], ◌∷◌, ◌++◌, length, Option, Some, None, Ok}
+use Rattle.std.specs.Prelude.{◌≡◌, ℕ, ◌+◌, ◌⊎◌, Bool, not, is_none, is_err, List, [], ◌∷◌, ◌++◌}
+use Rattle.std.specs.Prelude.{length, Option, Some, None, Ok}
 use Rattle.pg_image.specs.Prelude.{bytes_eq, IsLeast, reading, Bytes, lines, end_fault, Fault}
 use Rattle.pg_cert_files.specs.FirstFault.{line_faults as version_2_faults, IsTooLarge}
 use Rattle.pg_cert_lines.specs.declared.fault.Fault.TheVariants as faults

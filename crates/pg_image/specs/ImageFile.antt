@@ -1,6 +1,7 @@
 -- Certificate files of version 3: which line is due, what each line adds, and the first fault. All
 -- lines but the first and those of images are read as in version 2.
-use Rattle.std.specs.Prelude.{ℕ, ◌+◌, nat_lt, if◌then◌else◌, List, [], ◌∷◌, ◌++◌, length, Option, Some, None, Result, Ok, Err}
+use Rattle.std.specs.Prelude.{ℕ, ◌+◌, nat_lt, if◌then◌else◌, List, [], ◌∷◌, ◌++◌, length, Option}
+use Rattle.std.specs.Prelude.{Some, None, Result, Ok, Err}
 use Rattle.pg_image.specs.Prelude.{bytes_eq, and_then, reading, Bytes, lines, Two, Part}
 use Rattle.pg_cert.specs.declared.part.Part.TheVariants as parts
 use Rattle.pg_image.specs.Prelude.{start, behind, step, end_fault, Fault}

@@ -1,7 +1,9 @@
 -- The line of an image: the line of a move, with the word `image` for `move` and the number of a
 -- map for the point.
-use Rattle.std.specs.Prelude.{nat_lt, if◌then◌else◌, List, [], ◌∷◌, Option, Some, None, Result, Ok, Err, codes}
-use Rattle.pg_image.specs.Prelude.{bytes_eq, BAR, SPACE, and_then, Bytes, Four, parts, four_parts, Body, Move, Node, Shape, turn_of, with_form, formed, Fault}
+use Rattle.std.specs.Prelude.{nat_lt, if◌then◌else◌, List, [], ◌∷◌, Option, Some, None, Result, Ok}
+use Rattle.std.specs.Prelude.{Err, codes}
+use Rattle.pg_image.specs.Prelude.{bytes_eq, BAR, SPACE, and_then, Bytes, Four, parts, four_parts}
+use Rattle.pg_image.specs.Prelude.{Body, Move, Node, Shape, turn_of, with_form, formed, Fault}
 use Rattle.pg_cert_lines.specs.declared.fault.Fault.TheVariants as faults
 use Rattle.pg_cert_lines.specs.declared.form.Form.TheVariants as forms
 use Rattle.pg_image.specs.Prelude.{Turn, numbered, MAP_COUNT}

@@ -1,6 +1,8 @@
 -- The printed text of a certificate with images.
 use Rattle.std.specs.Prelude.{ℕ, List, [], ◌∷◌, ◌++◌, length, codes}
-use Rattle.pg_image.specs.Prelude.{FinSet, decimal, flat_map, nat_cmp, BAR, LINE_FEED, Side, Bytes, spaced, set_words, turn_word, node_text, count_words, GridMap, number_of}
+use Rattle.pg_image.specs.Prelude.{FinSet, decimal, flat_map, nat_cmp, BAR, LINE_FEED, Side, Bytes}
+use Rattle.pg_image.specs.Prelude.{spaced, set_words, turn_word, node_text, count_words, GridMap}
+use Rattle.pg_image.specs.Prelude.{number_of}
 use Rattle.pg_base.specs.Side.{side_word}
 use Rattle.pg_base.specs.Goal.{goal_word}
 use Rattle.pg_image.specs.declared.node.ImageNode.{ImageNode}

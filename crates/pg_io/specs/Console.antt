@@ -1,5 +1,6 @@
 -- What calls on a console add to its log, and what they take from its input.
-use Rattle.std.specs.Prelude.{Bool, true, false, ◌≡◌, ℕ, ◌+◌, ◌<◌, ◌≤◌, ◌==◌, List, [], ◌∷◌, ◌++◌, length, take, drop, Option, Some, None, Result, Ok, Err, nat_lt, ⊤}
+use Rattle.std.specs.Prelude.{Bool, true, false, ◌≡◌, ℕ, ◌+◌, ◌<◌, ◌≤◌, ◌==◌, List, [], ◌∷◌, ◌++◌}
+use Rattle.std.specs.Prelude.{length, take, drop, Option, Some, None, Result, Ok, Err, nat_lt, ⊤}
 use Rattle.std.specs.List.{position}
 use Rattle.pg_base.specs.declared.signs.TheConstants.{LINE_FEED}
 use Rattle.pg_io.specs.declared.entry.Entry.{Entry}

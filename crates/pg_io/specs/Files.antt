@@ -1,5 +1,6 @@
 -- What calls on files do, where it is told which bytes stand under which names.
-use Rattle.std.specs.Prelude.{◌≡◌, ◌≢◌, ◌⊎◌, ℕ, Bool, [], ◌++◌, take, Option, Some, None, Result, Ok, Err, IsSome, ⊤}
+use Rattle.std.specs.Prelude.{◌≡◌, ◌≢◌, ◌⊎◌, ℕ, Bool, [], ◌++◌, take, Option, Some, None, Result}
+use Rattle.std.specs.Prelude.{Ok, Err, IsSome, ⊤}
 pub use Rattle.pg_base.specs.Texts.{Bytes}
 use Rattle.pg_io.specs.Causes.{Faults}
 

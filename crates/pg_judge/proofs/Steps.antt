@@ -1,12 +1,18 @@
 -- A piece more, part after part.
-use Rattle.std.proofs.Common.{◌≡◌, ◌∙◌, ℕ, ◌-◌, ◌≤◌, List, [], ◌∷◌, ◌++◌, length, take, drop, Option, Some, None, refl, sym, ap, ap₂, subst, arith, map}
+use Rattle.std.proofs.Common.{◌≡◌, ◌∙◌, ℕ, ◌-◌, ◌≤◌, List, [], ◌∷◌, ◌++◌, length, take, drop}
+use Rattle.std.proofs.Common.{Option, Some, None, refl, sym, ap, ap₂, subst, arith, map}
 use Rattle.std.specs.Prelude.{IfSome}
-use Rattle.pg_judge.proofs.Common.{append_assoc, append-nil, nil_from_length, take_all, length-drop, take-append-drop, length-append, Bytes, all_parts, claim_parts, parts_of, BeginCert, Cert, Claim, Node, Part, listed, IsFed, AreAllParts, parts_told, size_of, HasBeenFed, IsFedShort, alike_more, alike_on, CertReader}
+use Rattle.pg_judge.proofs.Common.{append_assoc, append-nil, nil_from_length, take_all, length-drop}
+use Rattle.pg_judge.proofs.Common.{take-append-drop, length-append, Bytes, all_parts, claim_parts}
+use Rattle.pg_judge.proofs.Common.{parts_of, BeginCert, Cert, Claim, Node, Part, listed, IsFed}
+use Rattle.pg_judge.proofs.Common.{AreAllParts, parts_told, size_of, HasBeenFed, IsFedShort}
+use Rattle.pg_judge.proofs.Common.{alike_more, alike_on, CertReader}
 use Rattle.pg_cert.specs.declared.part.Part.TheVariants as parts
 use Rattle.pg_check.specs.Checking.{StandsFor as IsChecked}
 use Rattle.pg_cert_files.proofs.PartsBegin.{begin_seen}
 use Rattle.pg_judge.specs.Heads.{head_of, heads_in, heads_of}
-use Rattle.pg_judge.specs.Judged.{AreFed, HasCome, HaveBeenFed, HasTold, IsComplete, IsDue, IsReady, StandsFor}
+use Rattle.pg_judge.specs.Judged.{AreFed, HasCome, HaveBeenFed, HasTold, IsComplete, IsDue, IsReady}
+use Rattle.pg_judge.specs.Judged.{StandsFor}
 use Rattle.pg_judge.specs.declared.claim_head.ClaimHead.{ClaimHead}
 use Rattle.pg_judge.specs.declared.judging.Judging.{Judging}
 use Rattle.pg_judge.specs.declared.told.Told.{Told}

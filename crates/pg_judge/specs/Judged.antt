@@ -3,7 +3,9 @@ use Rattle.std.specs.Prelude.{◌≡◌, ◌≤◌, length, List, [], ◌∷◌,
 use Rattle.pg_base.specs.Texts.{Bytes}
 use Rattle.pg_text.specs.declared.error.FileError.{FileError}
 use Rattle.pg_text.specs.declared.error.FileError.TheVariants as outcomes
-use Rattle.pg_judge.specs.Prelude.{Game, IsWithinLimits, BeginCert, parts_of, IsFirstFault, IsValid, Cert, Part, certificate, IsFed, parts_told, size_of, AreAlike, number_of, CertReader}
+use Rattle.pg_judge.specs.Prelude.{Game, IsWithinLimits, BeginCert, parts_of, IsFirstFault, IsValid}
+use Rattle.pg_judge.specs.Prelude.{Cert, Part, certificate, IsFed, parts_told, size_of, AreAlike}
+use Rattle.pg_judge.specs.Prelude.{number_of, CertReader}
 use Rattle.pg_check.specs.Checking.{StandsFor as IsChecked}
 use Rattle.pg_judge.specs.Heads.{heads_in, heads_of}
 use Rattle.pg_judge.specs.declared.claim_head.ClaimHead.{ClaimHead}

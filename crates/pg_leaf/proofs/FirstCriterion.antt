@@ -1,6 +1,17 @@
 -- What each criterion answers, and the leaf that shows it.
-use Rattle.std.proofs.Common.{◌≡◌, ◌≢◌, ℕ, zero, suc, ◌<◌, ◌%◌, Bool, true, false, ◌&&◌, ◌==◌, Option, Some, None, option_map, List, [], ◌∷◌, length, get_or, refl, sym, ap, ◌∙◌, subst, inl, inr, arith, if◌then◌else◌}
-use Rattle.pg_leaf.proofs.Common.{cases_Bool, false≢true, cond-true, cond-false, and_parts, and_from, ltb-true, eq-eqb, All, MakerBreaker, MakerMaker, AvoiderEnforcer, Switching, Pair, Score, Side, Game, Position, is_over, outcome, outcome_by, has_filled, short_joins, after, IsPosition, PairsHold, may_attack, LeadsToLine, IsThreatLine, Criterion, decided, answer_by, first_criterion, at_least, by_end, claimer, claimed_goal, answer_for, defender, defends, attack_wins, pairs_exist, IsQuestion, point_count-le, IsPair, shows_defence, pairs_fit, PotentialFits, Over, Pairs, Potential, Threat, some≢none, same_some, ByEnd, ByPotential, ByThreat, ByPairs}
+use Rattle.std.proofs.Common.{◌≡◌, ◌≢◌, ℕ, zero, suc, ◌<◌, ◌%◌, Bool, true, false, ◌&&◌, ◌==◌}
+use Rattle.std.proofs.Common.{Option, Some, None, option_map, List, [], ◌∷◌, length, get_or, refl}
+use Rattle.std.proofs.Common.{sym, ap, ◌∙◌, subst, inl, inr, arith, if◌then◌else◌}
+use Rattle.pg_leaf.proofs.Common.{cases_Bool, false≢true, cond-true, cond-false, and_parts}
+use Rattle.pg_leaf.proofs.Common.{and_from, ltb-true, eq-eqb, All, MakerBreaker, MakerMaker}
+use Rattle.pg_leaf.proofs.Common.{AvoiderEnforcer, Switching, Pair, Score, Side, Game, Position}
+use Rattle.pg_leaf.proofs.Common.{is_over, outcome, outcome_by, has_filled, short_joins, after}
+use Rattle.pg_leaf.proofs.Common.{IsPosition, PairsHold, may_attack, LeadsToLine, IsThreatLine}
+use Rattle.pg_leaf.proofs.Common.{Criterion, decided, answer_by, first_criterion, at_least, by_end}
+use Rattle.pg_leaf.proofs.Common.{claimer, claimed_goal, answer_for, defender, defends, attack_wins}
+use Rattle.pg_leaf.proofs.Common.{pairs_exist, IsQuestion, point_count-le, IsPair, shows_defence}
+use Rattle.pg_leaf.proofs.Common.{pairs_fit, PotentialFits, Over, Pairs, Potential, Threat}
+use Rattle.pg_leaf.proofs.Common.{some≢none, same_some, ByEnd, ByPotential, ByThreat, ByPairs}
 use Rattle.pg_base.specs.declared.kind.Kind.{Kind}
 use Rattle.pg_base.specs.declared.score.Score.TheVariants.{XWins, Draw, YWins}
 use Rattle.pg_base.specs.declared.side.Side.TheVariants.{X, Y}

@@ -1,6 +1,15 @@
 -- Where counts alone show that not each line meant can have two free points of its own.
-use Rattle.std.proofs.Common.{◌≡◌, ◌≢◌, ℕ, ◌*◌, ◌<◌, ◌≤◌, Bool, true, false, cond, not, ◌&&◌, refl, List, [], ◌∷◌, length, filter, ltb, sym, ap, ◌∙◌, subst, inl, inr, arith, eqb-true}
-use Rattle.pg_leaf.proofs.Common.{and_parts, false_from_ne_true, ltb-true, All, Contains, count_by, list_any, range_with_len, All-contains, All-filter, count, minus, Pair, Side, Game, Position, is_free, points_of, lines_of, free_points, is_touched, point_count, has_private_pairs, lines_meant, pairs_exist, avoider_can_pair, has_lines, lines-range, breaker_of, Contains-head, Contains-tail, Contains-filter, member-from_any, line_at, live_lines, live_with, is_live_with}
+use Rattle.std.proofs.Common.{◌≡◌, ◌≢◌, ℕ, ◌*◌, ◌<◌, ◌≤◌, Bool, true, false, cond, not, ◌&&◌, refl}
+use Rattle.std.proofs.Common.{List, [], ◌∷◌, length, filter, ltb, sym, ap, ◌∙◌, subst, inl, inr}
+use Rattle.std.proofs.Common.{arith, eqb-true}
+use Rattle.pg_leaf.proofs.Common.{and_parts, false_from_ne_true, ltb-true, All, Contains, count_by}
+use Rattle.pg_leaf.proofs.Common.{list_any, range_with_len, All-contains, All-filter, count, minus}
+use Rattle.pg_leaf.proofs.Common.{Pair, Side, Game, Position, is_free, points_of, lines_of}
+use Rattle.pg_leaf.proofs.Common.{free_points, is_touched, point_count, has_private_pairs}
+use Rattle.pg_leaf.proofs.Common.{lines_meant, pairs_exist, avoider_can_pair, has_lines}
+use Rattle.pg_leaf.proofs.Common.{lines-range, breaker_of, Contains-head, Contains-tail}
+use Rattle.pg_leaf.proofs.Common.{Contains-filter, member-from_any, line_at, live_lines, live_with}
+use Rattle.pg_leaf.proofs.Common.{is_live_with}
 use Rattle.std.proofs.lemmas.List.Sums.{length-filter, sum_by-cons}
 use Rattle.pg_base.proofs.SetLemmas.{minus_from, minus_parts, count_minus}
 use Rattle.pg_board.proofs.Digits.{count-all}

@@ -1,6 +1,10 @@
 -- Moves are taken one after the other.
-use Rattle.std.proofs.Common.{◌≡◌, ◌≢◌, ℕ, zero, suc, ◌<◌, ◌≤◌, ◌+◌, Some, List, [], ◌∷◌, ◌++◌, length, slice_get, slice_set, replicate, refl, sym, ap, ◌∙◌, subst, inl, inr, arith}
-use Rattle.pg_leaf.proofs.Common.{Contains, cases_eq, cases_order, slice_get_within, length-set, at_push, at_new, at_contains, contains_push, contains_old, at_set_other, at_set_same, one_at, some≢none}
+use Rattle.std.proofs.Common.{◌≡◌, ◌≢◌, ℕ, zero, suc, ◌<◌, ◌≤◌, ◌+◌, Some, List, [], ◌∷◌, ◌++◌}
+use Rattle.std.proofs.Common.{length, slice_get, slice_set, replicate, refl, sym, ap, ◌∙◌, subst}
+use Rattle.std.proofs.Common.{inl, inr, arith}
+use Rattle.pg_leaf.proofs.Common.{Contains, cases_eq, cases_order, slice_get_within, length-set}
+use Rattle.pg_leaf.proofs.Common.{at_push, at_new, at_contains, contains_push, contains_old}
+use Rattle.pg_leaf.proofs.Common.{at_set_other, at_set_same, one_at, some≢none}
 use Rattle.std.proofs.lemmas.List.{length-replicate}
 use Rattle.pg_leaf.specs.declared.order.Order.{Order}
 use Rattle.pg_leaf.specs.Order.{IsPlaceOf, IsToCome, IsTaking, IsOrder, Takes}

@@ -1,6 +1,8 @@
 -- The leaf of a decided position: which criterion decides it, and the body that shows it.
 use Rattle.std.specs.Prelude.{◌≡◌, ℕ, ◌<◌, ◌%◌, Bool, List, Option, Some, None, length}
-use Rattle.pg_leaf.specs.Prelude.{All, Score, Game, Position, Criterion, claimer, claimed_goal, ByEnd, ByPotential, ByThreat, ByPairs, IsThreatLine, Node, Body, Over, Move, Pairs, Potential, Trees, Cuts, Threat, Weaker}
+use Rattle.pg_leaf.specs.Prelude.{All, Score, Game, Position, Criterion, claimer, claimed_goal}
+use Rattle.pg_leaf.specs.Prelude.{ByEnd, ByPotential, ByThreat, ByPairs, IsThreatLine, Node, Body}
+use Rattle.pg_leaf.specs.Prelude.{Over, Move, Pairs, Potential, Trees, Cuts, Threat, Weaker}
 pub use Rattle.pg_game.specs.Decided.{first_criterion}
 use Rattle.pg_cert.specs.declared.node.Body.TheVariants.{All as AllReplies}
 use Rattle.pg_leaf.specs.Sound.{BodyHolds}

@@ -1,6 +1,8 @@
 -- The nodes of a claim that its root reaches, and the others left out.
-use Rattle.std.specs.Prelude.{◌≡◌, ℕ, suc, ◌<◌, ◌≤◌, ◌+◌, Bool, true, false, List, [], ◌∷◌, ◌++◌, length, slice_get, Some, ◌⊎◌}
-use Rattle.pg_leaf.specs.Prelude.{Contains, IsMarked, Goal, Side, Game, position_of, Body, Move, Weaker, Node, Reply}
+use Rattle.std.specs.Prelude.{◌≡◌, ℕ, suc, ◌<◌, ◌≤◌, ◌+◌, Bool, true, false, List, [], ◌∷◌, ◌++◌}
+use Rattle.std.specs.Prelude.{length, slice_get, Some, ◌⊎◌}
+use Rattle.pg_leaf.specs.Prelude.{Contains, IsMarked, Goal, Side, Game, position_of, Body, Move}
+use Rattle.pg_leaf.specs.Prelude.{Weaker, Node, Reply}
 use Rattle.pg_cert.specs.declared.node.Body.TheVariants.{All}
 use Rattle.pg_leaf.specs.Sound.{NodesHold}
 

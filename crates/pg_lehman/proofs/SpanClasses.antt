@@ -1,7 +1,15 @@
 -- The sets that two settled bases give are trees and cuts in a game of spanning e, and what they
 -- make the class: one proof for graphs and for all other grounds.
-use Rattle.std.proofs.Common.{◌≡◌, ℕ, ◌<◌, ◌≤◌, suc, Bool, true, false, not, ◌⊎◌, inl, inr, refl, sym, subst, subst₂, arith, Some}
-use Rattle.pg_lehman.proofs.Common.{both_ways, cases_Bool, cases_lt, and_from, false_from_ne_true, not-true, not_from_false, FinSet, contains, nat_cmp, both, either, outside, below, IsWithin, IsBelow, Win, XWins, Draw, YWins, Side, X, Y, plus_cases, plus_old, plus_new, both_parts, both_from, either_cases, either_left, either_right, outside_parts, outside_from, IsSpan, IsTrees, IsCuts, AreBases, Matroid, Position, class_by, kept, span_rules, IsPlace, AreFreeOrE, AreFree, AreSpanTrees, AreSpanCuts}
+use Rattle.std.proofs.Common.{◌≡◌, ℕ, ◌<◌, ◌≤◌, suc, Bool, true, false, not, ◌⊎◌, inl, inr, refl}
+use Rattle.std.proofs.Common.{sym, subst, subst₂, arith, Some}
+use Rattle.pg_lehman.proofs.Common.{both_ways, cases_Bool, cases_lt, and_from, false_from_ne_true}
+use Rattle.pg_lehman.proofs.Common.{not-true, not_from_false, FinSet, contains, nat_cmp, both}
+use Rattle.pg_lehman.proofs.Common.{either, outside, below, IsWithin, IsBelow, Win, XWins, Draw}
+use Rattle.pg_lehman.proofs.Common.{YWins, Side, X, Y, plus_cases, plus_old, plus_new, both_parts}
+use Rattle.pg_lehman.proofs.Common.{both_from, either_cases, either_left, either_right}
+use Rattle.pg_lehman.proofs.Common.{outside_parts, outside_from, IsSpan, IsTrees, IsCuts, AreBases}
+use Rattle.pg_lehman.proofs.Common.{Matroid, Position, class_by, kept, span_rules, IsPlace}
+use Rattle.pg_lehman.proofs.Common.{AreFreeOrE, AreFree, AreSpanTrees, AreSpanCuts}
 use Rattle.pg_base.specs.Points.{ShareNone}
 use Rattle.pg_base.specs.declared.score.Score.{Score}
 use Rattle.pg_base.proofs.BelowLemmas.{below_parts, below_from, same_sets}

@@ -17,6 +17,7 @@ pub use Rattle.pg_game.specs.Trees.{AreCuts, AreTrees, CutsHold, CutsHoldOn, Tre
 pub use Rattle.pg_game.specs.declared.game.Game.{Game}
 pub use Rattle.pg_game.specs.declared.position.Position.{Position}
 pub use Rattle.pg_graph.specs.Span.{IsBase, IsCuts, IsReached, IsSpan, IsTrees}
-pub use Rattle.pg_switch.specs.Claims.{AreFree, AreFreeOrE, AreSpanCuts, AreSpanTrees, IsPlace, kept, span_rules}
+pub use Rattle.pg_switch.specs.Claims.{AreFree, AreFreeOrE, AreSpanCuts, AreSpanTrees, IsPlace}
+pub use Rattle.pg_switch.specs.Claims.{kept, span_rules}
 pub use Rattle.std.specs.FinSet.{FinSet, contains, contains-empty, empty, insert, remove}
 pub use Rattle.std.specs.Ordering.{nat_cmp}

@@ -1,7 +1,8 @@
 -- The sets of a class in a game of spanning e, at two positions that differ by the side to move
 -- alone.
 use Rattle.std.specs.Prelude.{◌≡◌, ℕ, Bool, true, not}
-use Rattle.pg_lehman.specs.Prelude.{contains, below, either, plus, Position, AreSpanTrees, AreSpanCuts}
+use Rattle.pg_lehman.specs.Prelude.{contains, below, either, plus, Position, AreSpanTrees}
+use Rattle.pg_lehman.specs.Prelude.{AreSpanCuts}
 use Rattle.pg_lehman.specs.declared.class.Class.{Class}
 use Rattle.pg_lehman.specs.declared.class.Class.TheVariants.{Short, Cut, First}
 

@@ -1,15 +1,20 @@
 -- The maps of a game's board that fit it.
 use Rattle.std.proofs.Common.{◌≡◌, ℕ, ◌*◌, Option, Some, None, map, refl, sym, ap, ◌∙◌, subst}
-use Rattle.pg_maps.proofs.Common.{false≢true, All-weaker, All, IsPermutation, Grid, Field, Lines, Game, field_points, IsLineOf, point_count, lines_of, lines-fit}
+use Rattle.pg_maps.proofs.Common.{false≢true, All-weaker, All, IsPermutation, Grid, Field, Lines}
+use Rattle.pg_maps.proofs.Common.{Game, field_points, IsLineOf, point_count, lines_of, lines-fit}
 use Rattle.std.proofs.lemmas.Option.{none-some}
 use Rattle.pg_game.specs.declared.field.Field.TheVariants.{Graph as OnGraph}
 use Rattle.pg_maps.specs.declared.grid_map.GridMap.{GridMap}
-use Rattle.pg_maps.specs.GridMaps.{IsMapOf, numbered, number_of, image_of, identity, followed_by, reverse_of}
-use Rattle.pg_maps.specs.Images.{AreInverse, image_line, AreSameLines, IsAutomorphism, Fits, board_of, IsMapOn, image_on}
+use Rattle.pg_maps.specs.GridMaps.{IsMapOf, numbered, number_of, image_of, identity, followed_by}
+use Rattle.pg_maps.specs.GridMaps.{reverse_of}
+use Rattle.pg_maps.specs.Images.{AreInverse, image_line, AreSameLines, IsAutomorphism, Fits}
+use Rattle.pg_maps.specs.Images.{board_of, IsMapOn, image_on}
 use Rattle.pg_maps.specs.Rows.{IsRow}
-use Rattle.pg_maps.proofs.ImageLines.{image_line-same, map-each, AreSameLines-itself, AreSameLines-followed, AreSameLines-back}
+use Rattle.pg_maps.proofs.ImageLines.{image_line-same, map-each, AreSameLines-itself}
+use Rattle.pg_maps.proofs.ImageLines.{AreSameLines-followed, AreSameLines-back}
 use Rattle.pg_maps.proofs.Numbers.{numbered-number}
-use Rattle.pg_maps.proofs.Turning.{AreInverse-map, image-followed, image-identity, IsMapOf-followed, IsMapOf-reverse}
+use Rattle.pg_maps.proofs.Turning.{AreInverse-map, image-followed, image-identity, IsMapOf-followed}
+use Rattle.pg_maps.proofs.Turning.{IsMapOf-reverse}
 
 -- ---- with a board and without one
 

@@ -1,8 +1,21 @@
 -- A map that fits a game keeps potentials, threat lines and pairs.
-use Rattle.std.proofs.Common.{◌≡◌, ℕ, zero, suc, ◌+◌, ◌-◌, ◌*◌, ◌^◌, ◌<◌, ◌≤◌, Bool, true, List, [], ◌∷◌, length, map, cond, if◌then◌else◌, refl, sym, ap, ap₂, ◌∙◌, subst, inl, inr, arith, eqb, eq-eqb, ne_eqb}
-use Rattle.pg_maps.proofs.Common.{cases_Bool, both_ways, All-weaker, All-head, All-tail, sum_by-cons, sum_by-IsPermutation, length_permutation, All, Contains, filter, count_by, sum_by, range_with_len, IsPermutation, FinSet, contains, nat_cmp, is_same_side, Side, Game, Position, IsLineOf, is_free, points_of, point_count, lines_of, free_points, greatest_length, is_on, line_weight, total_weight, point_weight, full_weight, greatest, weight, greatest_weight, times_counted, limit, PotentialHolds, x_takes_last, avoider_ends, avoider_total, AvoiderHolds, lines-fit, Contains-head, Contains-tail, list_any-one, list_any-none, All-from_members, free-member, member-free, member-within, greatest-le, greatest-ge}
+use Rattle.std.proofs.Common.{◌≡◌, ℕ, zero, suc, ◌+◌, ◌-◌, ◌*◌, ◌^◌, ◌<◌, ◌≤◌, Bool, true, List, []}
+use Rattle.std.proofs.Common.{◌∷◌, length, map, cond, if◌then◌else◌, refl, sym, ap, ap₂, ◌∙◌, subst}
+use Rattle.std.proofs.Common.{inl, inr, arith, eqb, eq-eqb, ne_eqb}
+use Rattle.pg_maps.proofs.Common.{cases_Bool, both_ways, All-weaker, All-head, All-tail}
+use Rattle.pg_maps.proofs.Common.{sum_by-cons, sum_by-IsPermutation, length_permutation, All}
+use Rattle.pg_maps.proofs.Common.{Contains, filter, count_by, sum_by, range_with_len, IsPermutation}
+use Rattle.pg_maps.proofs.Common.{FinSet, contains, nat_cmp, is_same_side, Side, Game, Position}
+use Rattle.pg_maps.proofs.Common.{IsLineOf, is_free, points_of, point_count, lines_of, free_points}
+use Rattle.pg_maps.proofs.Common.{greatest_length, is_on, line_weight, total_weight, point_weight}
+use Rattle.pg_maps.proofs.Common.{full_weight, greatest, weight, greatest_weight, times_counted}
+use Rattle.pg_maps.proofs.Common.{limit, PotentialHolds, x_takes_last, avoider_ends, avoider_total}
+use Rattle.pg_maps.proofs.Common.{AvoiderHolds, lines-fit, Contains-head, Contains-tail}
+use Rattle.pg_maps.proofs.Common.{list_any-one, list_any-none, All-from_members, free-member}
+use Rattle.pg_maps.proofs.Common.{member-free, member-within, greatest-le, greatest-ge}
 use Rattle.pg_maps.specs.Images.{image_line, IsAutomorphism, IsImage}
-use Rattle.pg_maps.proofs.ImageLines.{is_in, filter-permutes, AreDistinct-map, AreDistinct-range, All-through}
+use Rattle.pg_maps.proofs.ImageLines.{is_in, filter-permutes, AreDistinct-map, AreDistinct-range}
+use Rattle.pg_maps.proofs.ImageLines.{All-through}
 use Rattle.pg_maps.proofs.Imaging.{permuted, any-image, eqb-image, has-image, free-image}
 
 pub sum-through : {A B : Type 0} (f : A → B) (t : B → ℕ) (xs : List A)

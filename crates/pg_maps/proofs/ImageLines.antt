@@ -1,7 +1,17 @@
 -- Images of lines: their points are the images of the points, and maps that take the lines onto the
 -- lines are a group.
-use Rattle.std.proofs.Common.{◌≡◌, ℕ, zero, suc, ◌+◌, ◌<◌, ◌≤◌, Bool, false, ◌||◌, List, [], ◌∷◌, get_or, map, refl, sym, ap, ap₂, ◌∙◌, subst, inl, inr, arith, eqb, eq-eqb, ne_eqb}
-use Rattle.pg_maps.proofs.Common.{cases_Bool, cases_eq, All-weaker, All-head, All-tail, All-cons, filter_agree, list_any_none, AllPairs-from_increasing, AllPairs-filter, length-range_with_len, get_or-range_with_len, IsPermutation-refl, IsPermutation-cons, IsPermutation-middle, IsPermutation-trans, IsPermutation-sym, IsPermutation-map, list_any-IsPermutation, All, AllPairs, filter, list_any, range_with_len, IsPermutation, IsStrictlyIncreasing, FinSet, contains, from_list, contains-from_list_nat, nat_cmp, points_below, same_points}
+use Rattle.std.proofs.Common.{◌≡◌, ℕ, zero, suc, ◌+◌, ◌<◌, ◌≤◌, Bool, false, ◌||◌, List, [], ◌∷◌}
+use Rattle.std.proofs.Common.{get_or, map, refl, sym, ap, ap₂, ◌∙◌, subst, inl, inr, arith, eqb}
+use Rattle.std.proofs.Common.{eq-eqb, ne_eqb}
+use Rattle.pg_maps.proofs.Common.{cases_Bool, cases_eq, All-weaker, All-head, All-tail, All-cons}
+use Rattle.pg_maps.proofs.Common.{filter_agree, list_any_none, AllPairs-from_increasing}
+use Rattle.pg_maps.proofs.Common.{AllPairs-filter, length-range_with_len, get_or-range_with_len}
+use Rattle.pg_maps.proofs.Common.{IsPermutation-refl, IsPermutation-cons, IsPermutation-middle}
+use Rattle.pg_maps.proofs.Common.{IsPermutation-trans, IsPermutation-sym, IsPermutation-map}
+use Rattle.pg_maps.proofs.Common.{list_any-IsPermutation, All, AllPairs, filter, list_any}
+use Rattle.pg_maps.proofs.Common.{range_with_len, IsPermutation, IsStrictlyIncreasing, FinSet}
+use Rattle.pg_maps.proofs.Common.{contains, from_list, contains-from_list_nat, nat_cmp}
+use Rattle.pg_maps.proofs.Common.{points_below, same_points}
 use Rattle.pg_maps.specs.Images.{AreInverse, image_line, AreSameLines}
 use Rattle.pg_maps.specs.Rows.{IsRow}
 

@@ -1,7 +1,16 @@
 -- A map that fits a game keeps who has filled a line, when the game is over, its outcome, and its
 -- value.
-use Rattle.std.proofs.Common.{◌≡◌, ℕ, ◌<◌, ◌-◌, Bool, true, not, ◌&&◌, ◌||◌, List, [], ◌∷◌, length, map, nat_lt, if◌then◌else◌, refl, sym, ap, ap₂, ◌∙◌, subst, inl, inr, eqb, eq-eqb, ne_eqb}
-use Rattle.pg_maps.proofs.Common.{cases_Bool, cases_eq, both_ways, false≢true, All-weaker, list_any-IsPermutation, list_any, list_all, IsPermutation, FinSet, contains, insert, nat_cmp, Goal, Side, X, Y, other, in_insert, Field, Lines, Game, Position, field_joins, field_points, is_free, points_of, claims_in_turn, x_after, y_after, point_count, lines_of, after, is_filled, is_touched, has_filled, all_touched, is_full, is_over, outcome, is_over_by, outcome_by, short_joins, can_join, reaches, Forces, value, lines-fit, IsLineOf}
+use Rattle.std.proofs.Common.{◌≡◌, ℕ, ◌<◌, ◌-◌, Bool, true, not, ◌&&◌, ◌||◌, List, [], ◌∷◌, length}
+use Rattle.std.proofs.Common.{map, nat_lt, if◌then◌else◌, refl, sym, ap, ap₂, ◌∙◌, subst, inl, inr}
+use Rattle.std.proofs.Common.{eqb, eq-eqb, ne_eqb}
+use Rattle.pg_maps.proofs.Common.{cases_Bool, cases_eq, both_ways, false≢true, All-weaker}
+use Rattle.pg_maps.proofs.Common.{list_any-IsPermutation, list_any, list_all, IsPermutation, FinSet}
+use Rattle.pg_maps.proofs.Common.{contains, insert, nat_cmp, Goal, Side, X, Y, other, in_insert}
+use Rattle.pg_maps.proofs.Common.{Field, Lines, Game, Position, field_joins, field_points, is_free}
+use Rattle.pg_maps.proofs.Common.{points_of, claims_in_turn, x_after, y_after, point_count}
+use Rattle.pg_maps.proofs.Common.{lines_of, after, is_filled, is_touched, has_filled, all_touched}
+use Rattle.pg_maps.proofs.Common.{is_full, is_over, outcome, is_over_by, outcome_by, short_joins}
+use Rattle.pg_maps.proofs.Common.{can_join, reaches, Forces, value, lines-fit, IsLineOf}
 use Rattle.pg_base.specs.declared.goal.Goal.TheVariants.{Win, Draw as AtLeastDraw}
 use Rattle.pg_base.specs.declared.score.Score.{Score}
 use Rattle.pg_base.specs.declared.score.Score.TheVariants.{XWins, Draw, YWins}

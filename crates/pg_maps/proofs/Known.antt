@@ -1,6 +1,8 @@
 -- What the maps of lower numbers that fit tell of a map.
-use Rattle.std.proofs.Common.{◌≡◌, ◌↔◌, ◌<◌, Bool, true, false, List, refl, sym, ap, ap₂, ◌∙◌, subst, ◌&&◌}
-use Rattle.pg_maps.proofs.Common.{and_parts, false≢true, Any-from_list_any, Contains, list_any, Game, list_any-one}
+use Rattle.std.proofs.Common.{◌≡◌, ◌↔◌, ◌<◌, Bool, true, false, List, refl, sym, ap, ap₂, ◌∙◌}
+use Rattle.std.proofs.Common.{subst, ◌&&◌}
+use Rattle.pg_maps.proofs.Common.{and_parts, false≢true, Any-from_list_any, Contains, list_any}
+use Rattle.pg_maps.proofs.Common.{Game, list_any-one}
 use Rattle.std.proofs.Math.Bool.{beq}
 use Rattle.pg_maps.specs.declared.grid_map.GridMap.{GridMap}
 use Rattle.pg_maps.specs.contracts.grid_map.GridMapPartialEq.TheImpl.{ghosts}

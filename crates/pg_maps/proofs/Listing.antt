@@ -1,6 +1,9 @@
 -- The maps that fit, gathered by their numbers.
-use Rattle.std.proofs.Common.{◌≡◌, ◌↔◌, ℕ, zero, suc, ◌+◌, ◌<◌, List, [], ◌∷◌, ◌++◌, None, refl, sym, ap, ◌∙◌, subst, inl, inr, arith}
-use Rattle.pg_maps.proofs.Common.{cases_eq, All-append, Contains-append_left, Contains-append_right, Contains-append_cases, AllPairs-cons, All, AllPairs, Contains, Game, Contains-head, All-from_members}
+use Rattle.std.proofs.Common.{◌≡◌, ◌↔◌, ℕ, zero, suc, ◌+◌, ◌<◌, List, [], ◌∷◌, ◌++◌, None, refl}
+use Rattle.std.proofs.Common.{sym, ap, ◌∙◌, subst, inl, inr, arith}
+use Rattle.pg_maps.proofs.Common.{cases_eq, All-append, Contains-append_left, Contains-append_right}
+use Rattle.pg_maps.proofs.Common.{Contains-append_cases, AllPairs-cons, All, AllPairs, Contains}
+use Rattle.pg_maps.proofs.Common.{Game, Contains-head, All-from_members}
 use Rattle.pg_maps.specs.declared.grid_map.GridMap.{GridMap}
 use Rattle.pg_maps.specs.GridMaps.{numbered, number_of, identity}
 use Rattle.pg_maps.specs.Images.{Fits, AreFitting, HasSymmetry, board_of}

@@ -1,9 +1,21 @@
 -- A map that fits a game keeps threat lines and pairs.
-use Rattle.std.proofs.Common.{◌≡◌, ◌≢◌, ℕ, suc, ◌<◌, Bool, true, not, ◌&&◌, ◌||◌, List, [], ◌∷◌, length, get_or, map, cond, sym, ap, ap₂, ◌∙◌, subst, arith, eqb, eqb-true}
-use Rattle.pg_maps.proofs.Common.{and_parts, All-weaker, All-head, All-tail, All-cons, All-contains, length-filter, AllPairs-cons, sum_by-IsPermutation, Contains-permutation, All-permutation, All, AllPairs, Any, list_any, contains, other, Pair, Side, Game, Position, IsLineOf, is_free, points_of, point_count, lines_of, free_points, after, is_on, is_near, threatens, has_threat, IsAttack, Forcing, Filling, LeadsToLine, IsThreatLine, is_open, has_point, is_paired, IsInGame, SharesNone, HoldsPair, breaker_of, IsSafe, HoldLines, unpaired, unpaired_due, AreOpenPairs, PairsHold, lines-fit, member-within, All-from_members, member-from_any}
+use Rattle.std.proofs.Common.{◌≡◌, ◌≢◌, ℕ, suc, ◌<◌, Bool, true, not, ◌&&◌, ◌||◌, List, [], ◌∷◌}
+use Rattle.std.proofs.Common.{length, get_or, map, cond, sym, ap, ap₂, ◌∙◌, subst, arith, eqb}
+use Rattle.std.proofs.Common.{eqb-true}
+use Rattle.pg_maps.proofs.Common.{and_parts, All-weaker, All-head, All-tail, All-cons, All-contains}
+use Rattle.pg_maps.proofs.Common.{length-filter, AllPairs-cons, sum_by-IsPermutation}
+use Rattle.pg_maps.proofs.Common.{Contains-permutation, All-permutation, All, AllPairs, Any}
+use Rattle.pg_maps.proofs.Common.{list_any, contains, other, Pair, Side, Game, Position, IsLineOf}
+use Rattle.pg_maps.proofs.Common.{is_free, points_of, point_count, lines_of, free_points, after}
+use Rattle.pg_maps.proofs.Common.{is_on, is_near, threatens, has_threat, IsAttack, Forcing, Filling}
+use Rattle.pg_maps.proofs.Common.{LeadsToLine, IsThreatLine, is_open, has_point, is_paired}
+use Rattle.pg_maps.proofs.Common.{IsInGame, SharesNone, HoldsPair, breaker_of, IsSafe, HoldLines}
+use Rattle.pg_maps.proofs.Common.{unpaired, unpaired_due, AreOpenPairs, PairsHold, lines-fit}
+use Rattle.pg_maps.proofs.Common.{member-within, All-from_members, member-from_any}
 use Rattle.pg_maps.specs.Images.{image_line, IsAutomorphism, IsImage, image_pair}
 use Rattle.pg_maps.proofs.ImageLines.{list_any-same, list_any-through}
-use Rattle.pg_maps.proofs.Imaging.{permuted, any-image, all-image, any-lines, eqb-image, has-image, free-image, filled-image, over-image, IsImage-after, one_to_one}
+use Rattle.pg_maps.proofs.Imaging.{permuted, any-image, all-image, any-lines, eqb-image, has-image}
+use Rattle.pg_maps.proofs.Imaging.{free-image, filled-image, over-image, IsImage-after, one_to_one}
 use Rattle.pg_maps.proofs.Criteria.{Contains-map, sum-through, sum-same, free_points-image}
 
 -- ---- threat lines

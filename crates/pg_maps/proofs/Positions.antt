@@ -1,6 +1,14 @@
 -- The image of a position, of all replies, and of a position that is no worse.
-use Rattle.std.proofs.Common.{◌≡◌, ℕ, ◌+◌, ◌<◌, true, List, map, refl, sym, ap, ◌∙◌, subst, inl, inr, arith, eqb, eqb-true, eq-eqb}
-use Rattle.pg_maps.proofs.Common.{cases_Bool, both_ways, All-weaker, filter_agree, list_any-IsPermutation, IsPermutation-trans, IsPermutation-sym, All-permutation, All, AllPairs, range_with_len, IsPermutation, FinSet, contains, nat_cmp, AreBelow, AreWithin, members, same_points, other, Side, X, Y, Game, Position, is_free, points_of, point_count, free_points, IsPosition, point_count-le, member-within, list_any-one, member-from_any, All-from_members, IsNoWorse}
+use Rattle.std.proofs.Common.{◌≡◌, ℕ, ◌+◌, ◌<◌, true, List, map, refl, sym, ap, ◌∙◌, subst, inl}
+use Rattle.std.proofs.Common.{inr, arith, eqb, eqb-true, eq-eqb}
+use Rattle.pg_maps.proofs.Common.{cases_Bool, both_ways, All-weaker, filter_agree}
+use Rattle.pg_maps.proofs.Common.{list_any-IsPermutation, IsPermutation-trans, IsPermutation-sym}
+use Rattle.pg_maps.proofs.Common.{All-permutation, All, AllPairs, range_with_len, IsPermutation}
+use Rattle.pg_maps.proofs.Common.{FinSet, contains, nat_cmp, AreBelow, AreWithin, members}
+use Rattle.pg_maps.proofs.Common.{same_points, other, Side, X, Y, Game, Position, is_free}
+use Rattle.pg_maps.proofs.Common.{points_of, point_count, free_points, IsPosition, point_count-le}
+use Rattle.pg_maps.proofs.Common.{member-within, list_any-one, member-from_any, All-from_members}
+use Rattle.pg_maps.proofs.Common.{IsNoWorse}
 use Rattle.pg_maps.specs.Images.{IsAutomorphism, IsImage, image_set, image_position}
 use Rattle.pg_maps.proofs.ImageLines.{is_in, filter-rising, rising_range}
 use Rattle.pg_maps.proofs.SetImages.{member_of, of_member, in_image}

@@ -1,6 +1,9 @@
 -- The image of a set of points.
-use Rattle.std.proofs.Common.{◌≡◌, ℕ, ◌<◌, true, map, refl, sym, ◌∙◌, subst, inl, inr, eqb, eqb-true, eq-eqb, lt-ltb}
-use Rattle.pg_maps.proofs.Common.{cases_Bool, and_from, and_parts, both_ways, Contains, FinSet, contains, contains-from_list_nat, nat_cmp, AreBelow, members, same_points, list_any-one, member-from_any}
+use Rattle.std.proofs.Common.{◌≡◌, ℕ, ◌<◌, true, map, refl, sym, ◌∙◌, subst, inl, inr, eqb}
+use Rattle.std.proofs.Common.{eqb-true, eq-eqb, lt-ltb}
+use Rattle.pg_maps.proofs.Common.{cases_Bool, and_from, and_parts, both_ways, Contains, FinSet}
+use Rattle.pg_maps.proofs.Common.{contains, contains-from_list_nat, nat_cmp, AreBelow, members}
+use Rattle.pg_maps.proofs.Common.{same_points, list_any-one, member-from_any}
 use Rattle.pg_base.proofs.MemberLemmas.{has-points_below}
 use Rattle.pg_maps.specs.Images.{image_set}
 use Rattle.pg_maps.proofs.ImageLines.{is_in}

@@ -1,11 +1,15 @@
 -- The eight maps of a board are a group: one after the other is one of them, and each is undone by
 -- one of them.
-use Rattle.std.proofs.Common.{◌≡◌, ℕ, ◌+◌, ◌*◌, ◌/◌, ◌%◌, ◌<◌, ◌≤◌, Bool, true, false, nat_lt, if◌then◌else◌, refl, sym, ap, ap₂, ◌∙◌, subst, inl, inr, arith}
-use Rattle.pg_maps.proofs.Common.{cases_Bool, cases_lt, lt-ltb, le-ltb, false≢true, cond-true, cond-false, Grid, differ}
-use Rattle.std.proofs.lemmas.Nat.{div-add-mod', mul-add-lt, div-mul-add, mod-mul-add, mod_below, div_below}
+use Rattle.std.proofs.Common.{◌≡◌, ℕ, ◌+◌, ◌*◌, ◌/◌, ◌%◌, ◌<◌, ◌≤◌, Bool, true, false, nat_lt}
+use Rattle.std.proofs.Common.{if◌then◌else◌, refl, sym, ap, ap₂, ◌∙◌, subst, inl, inr, arith}
+use Rattle.pg_maps.proofs.Common.{cases_Bool, cases_lt, lt-ltb, le-ltb, false≢true, cond-true}
+use Rattle.pg_maps.proofs.Common.{cond-false, Grid, differ}
+use Rattle.std.proofs.lemmas.Nat.{div-add-mod', mul-add-lt, div-mul-add, mod-mul-add, mod_below}
+use Rattle.std.proofs.lemmas.Nat.{div_below}
 use Rattle.std.proofs.Math.Nat.{mul_comm}
 use Rattle.pg_maps.specs.declared.grid_map.GridMap.{GridMap}
-use Rattle.pg_maps.specs.GridMaps.{identity, IsMapOf, turned, image_row, image_column, image_of, followed_by, reverse_of}
+use Rattle.pg_maps.specs.GridMaps.{identity, IsMapOf, turned, image_row, image_column, image_of}
+use Rattle.pg_maps.specs.GridMaps.{followed_by, reverse_of}
 use Rattle.pg_maps.specs.Images.{AreInverse}
 use Rattle.pg_maps.proofs.Numbers.{followed-reverse, reverse-followed}
 

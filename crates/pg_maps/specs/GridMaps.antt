@@ -1,6 +1,7 @@
 -- The eight maps of a board of square cells: whether rows and columns are exchanged first, and
 -- whether the rows and the columns then stand in reverse order.
-use Rattle.std.specs.Prelude.{◌≡◌, ℕ, ◌+◌, ◌*◌, ◌-◌, ◌/◌, ◌%◌, Bool, true, false, ◌==◌, nat_lt, nat_le, if◌then◌else◌}
+use Rattle.std.specs.Prelude.{◌≡◌, ℕ, ◌+◌, ◌*◌, ◌-◌, ◌/◌, ◌%◌, Bool, true, false, ◌==◌, nat_lt}
+use Rattle.std.specs.Prelude.{nat_le, if◌then◌else◌}
 use Rattle.pg_maps.specs.Prelude.{Grid, differ}
 use Rattle.pg_maps.specs.declared.grid_map.GridMap.{GridMap}
 

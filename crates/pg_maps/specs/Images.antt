@@ -1,7 +1,9 @@
 -- Maps of a game's points onto themselves that take its lines onto its lines, the maps of its board
 -- that do so, and the images of positions.
 use Rattle.std.specs.Prelude.{◌≡◌, ◌≢◌, ℕ, ◌<◌, List, map, Option, Some, None}
-use Rattle.pg_maps.specs.Prelude.{AllPairs, Contains, IsPermutation, FinSet, contains, from_list, nat_cmp, Grid, Pair, points_below, members, Field, Lines, Game, Position, point_count, lines_of}
+use Rattle.pg_maps.specs.Prelude.{AllPairs, Contains, IsPermutation, FinSet, contains, from_list}
+use Rattle.pg_maps.specs.Prelude.{nat_cmp, Grid, Pair, points_below, members, Field, Lines, Game}
+use Rattle.pg_maps.specs.Prelude.{Position, point_count, lines_of}
 use Rattle.pg_graph.specs.declared.graph.Graph.{Graph}
 use Rattle.pg_game.specs.declared.field.Field.TheVariants.{Graph as OnGraph}
 use Rattle.pg_maps.specs.declared.grid_map.GridMap.{GridMap}

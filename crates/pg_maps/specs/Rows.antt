@@ -1,6 +1,7 @@
 -- Rows of points, and tables of what a map does.
 use Rattle.std.specs.Prelude.{◌≡◌, ℕ, ◌<◌, List, map, length}
-use Rattle.pg_maps.specs.Prelude.{Vec, All, range_with_len, IsStrictlyIncreasing, IsPermutation, IsSorted, slice_cmp, nat_cmp}
+use Rattle.pg_maps.specs.Prelude.{Vec, All, range_with_len, IsStrictlyIncreasing, IsPermutation}
+use Rattle.pg_maps.specs.Prelude.{IsSorted, slice_cmp, nat_cmp}
 use Rattle.std.specs.declared.cmp.Ordering.{Ordering}
 use Rattle.pg_maps.specs.Images.{AreInverse}
 

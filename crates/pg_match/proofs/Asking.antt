@@ -1,7 +1,17 @@
 -- The lines meant one after the other, and the points left over.
-use Rattle.std.proofs.Common.{◌≡◌, ◌≢◌, ℕ, ◌+◌, ◌<◌, ◌≤◌, Bool, true, false, not, ◌&&◌, ◌||◌, eqb, cond, Option, Some, None, List, [], ◌∷◌, ◌++◌, length, map, get_or, take, ltb, refl, sym, ap, ◌∙◌, subst, subst₂, inl, inr, arith, append_assoc, append-nil}
+use Rattle.std.proofs.Common.{◌≡◌, ◌≢◌, ℕ, ◌+◌, ◌<◌, ◌≤◌, Bool, true, false, not, ◌&&◌, ◌||◌, eqb}
+use Rattle.std.proofs.Common.{cond, Option, Some, None, List, [], ◌∷◌, ◌++◌, length, map, get_or}
+use Rattle.std.proofs.Common.{take, ltb, refl, sym, ap, ◌∙◌, subst, subst₂, inl, inr, arith}
+use Rattle.std.proofs.Common.{append_assoc, append-nil}
 use Rattle.std.specs.Prelude.{option_to_list}
-use Rattle.pg_match.proofs.Common.{cases_eq, lt-ltb, ltb-true, and_parts, nat_tests, take_all, map_push, map-id, All-push, All-weaker, All-nil, filter_more, filter_agree, filter_of_map_range_with_len_more, All, AllPairs, filter, flat_map, range_with_len, FinSet, contains, insert, empty, contains-empty, len, count_same, nat_cmp, Pair, insert-self, insert-other, contains-insert_plus, len-count, plus, Game, Position, is_free, free_points, point_count, unpaired, is_paired, has_point, filter_both}
+use Rattle.pg_match.proofs.Common.{cases_eq, lt-ltb, ltb-true, and_parts, nat_tests, take_all}
+use Rattle.pg_match.proofs.Common.{map_push, map-id, All-push, All-weaker, All-nil, filter_more}
+use Rattle.pg_match.proofs.Common.{filter_agree, filter_of_map_range_with_len_more, All, AllPairs}
+use Rattle.pg_match.proofs.Common.{filter, flat_map, range_with_len, FinSet, contains, insert}
+use Rattle.pg_match.proofs.Common.{empty, contains-empty, len, count_same, nat_cmp, Pair}
+use Rattle.pg_match.proofs.Common.{insert-self, insert-other, contains-insert_plus, len-count, plus}
+use Rattle.pg_match.proofs.Common.{Game, Position, is_free, free_points, point_count, unpaired}
+use Rattle.pg_match.proofs.Common.{is_paired, has_point, filter_both}
 use Rattle.std.proofs.lemmas.List.Quantifiers.{all_pairs_push}
 use Rattle.std.proofs.lemmas.List.Concat.{flat_map-append}
 use Rattle.pg_base.specs.Points.{AreBelow}

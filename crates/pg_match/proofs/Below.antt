@@ -1,7 +1,9 @@
 -- The points of private pairs are points of lines.
 use Rattle.std.proofs.Common.{◌≡◌, ℕ, ◌<◌, List, [], ◌∷◌, length, ap, inl, inr, arith}
-use Rattle.pg_match.proofs.Common.{cases_lt, get_or_past, All-contains, All-cons, All-nil, All, AllZip, Contains, FinSet, nat_cmp, Pair}
-use Rattle.pg_match.specs.Private.{line_at, IsPairOf, Answer, FoundPairs, FoundShort, IsAnswer, HasPointsBelow}
+use Rattle.pg_match.proofs.Common.{cases_lt, get_or_past, All-contains, All-cons, All-nil, All}
+use Rattle.pg_match.proofs.Common.{AllZip, Contains, FinSet, nat_cmp, Pair}
+use Rattle.pg_match.specs.Private.{line_at, IsPairOf, Answer, FoundPairs, FoundShort, IsAnswer}
+use Rattle.pg_match.specs.Private.{HasPointsBelow}
 
 point-below : (lines : List (List ℕ)) (j v : ℕ)
     → All (All (λ u. u < 1024)) lines

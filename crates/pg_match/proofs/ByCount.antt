@@ -1,6 +1,10 @@
 -- Where counting shows that wanted lines hold too few free points.
-use Rattle.std.proofs.Common.{◌≡◌, ℕ, ◌+◌, ◌<◌, ◌≤◌, ◌/◌, ◌==◌, true, List, [], ◌∷◌, length, get_or, take, eqb, refl, sym, ◌∙◌, subst, arith, eq-eqb}
-use Rattle.pg_match.proofs.Common.{and_parts, eqb-true, get_or-take, length-take-le, All-take, All-contains_itself, All-cons, All-nil, Contains, list_any, filter, FinSet, contains, len, nat_cmp, count, count_le, list_any-one, member-from_any, Contains-filter}
+use Rattle.std.proofs.Common.{◌≡◌, ℕ, ◌+◌, ◌<◌, ◌≤◌, ◌/◌, ◌==◌, true, List, [], ◌∷◌, length, get_or}
+use Rattle.std.proofs.Common.{take, eqb, refl, sym, ◌∙◌, subst, arith, eq-eqb}
+use Rattle.pg_match.proofs.Common.{and_parts, eqb-true, get_or-take, length-take-le, All-take}
+use Rattle.pg_match.proofs.Common.{All-contains_itself, All-cons, All-nil, Contains, list_any}
+use Rattle.pg_match.proofs.Common.{filter, FinSet, contains, len, nat_cmp, count, count_le}
+use Rattle.pg_match.proofs.Common.{list_any-one, member-from_any, Contains-filter}
 use Rattle.pg_match.specs.Private.{line_at, is_covered, AreDifferent, IsShort}
 use Rattle.pg_match.proofs.Counting.{count-le, count-len, count-members}
 

@@ -1,11 +1,18 @@
 -- What a look-up, a move to the front and a put leave of a cache.
-use Rattle.std.proofs.Common.{◌≡◌, ◌≢◌, ℕ, zero, suc, ◌+◌, ◌-◌, ◌<◌, ◌≤◌, Bool, Some, None, List, [], ◌∷◌, ◌++◌, length, map, get_or, take, refl, sym, ap, ◌∙◌, subst, subst₂, inl, inr, arith, Result, Ok, Err}
-use Rattle.pg_match.proofs.Common.{OnOk, OnErr, cases_Bool, false≢true, take-map, length-take, All-map, All-cons, All-take, All-contains, none-some, same_Some, All, Any, Contains, lookup, lookup_entry, remove_entry, LruCache, lru_cache, promoted, put_entries, All-from_members, Contains-head, Contains-tail}
+use Rattle.std.proofs.Common.{◌≡◌, ◌≢◌, ℕ, zero, suc, ◌+◌, ◌-◌, ◌<◌, ◌≤◌, Bool, Some, None, List}
+use Rattle.std.proofs.Common.{[], ◌∷◌, ◌++◌, length, map, get_or, take, refl, sym, ap, ◌∙◌, subst}
+use Rattle.std.proofs.Common.{subst₂, inl, inr, arith, Result, Ok, Err}
+use Rattle.pg_match.proofs.Common.{OnOk, OnErr, cases_Bool, false≢true, take-map, length-take}
+use Rattle.pg_match.proofs.Common.{All-map, All-cons, All-take, All-contains, none-some, same_Some}
+use Rattle.pg_match.proofs.Common.{All, Any, Contains, lookup, lookup_entry, remove_entry, LruCache}
+use Rattle.pg_match.proofs.Common.{lru_cache, promoted, put_entries, All-from_members}
+use Rattle.pg_match.proofs.Common.{Contains-head, Contains-tail}
 use Rattle.std.specs.Option.{option_map_or}
 use Rattle.lru.proofs.CallerLemmas.{Contains-lookup, Contains-lookup_entry, Contains-promoted}
 use Rattle.pg_match.specs.declared.matching.Matching.{Matching}
 use Rattle.pg_match.specs.Private.{Answer, told, IsAnswer}
-use Rattle.pg_match.specs.Cache.{Asked, Kept, Cache, Fits, IsFor, keeps, leaves, Remembers, Keeps, stays, puts, same_asked, same_asked-decides, kept_of, one_more}
+use Rattle.pg_match.specs.Cache.{Asked, Kept, Cache, Fits, IsFor, keeps, leaves, Remembers, Keeps}
+use Rattle.pg_match.specs.Cache.{stays, puts, same_asked, same_asked-decides, kept_of, one_more}
 use Rattle.pg_match.proofs.PrivateLaws.{Contains-parts}
 
 -- the cache with these entries

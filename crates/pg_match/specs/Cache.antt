@@ -1,6 +1,8 @@
 -- A cache of what matching answered, for one list of lines.
-use Rattle.std.specs.Prelude.{◌≡◌, ℕ, ◌+◌, ◌-◌, ◌^◌, Bool, true, false, ◌&&◌, List, ◌∷◌, ◌++◌, min, take}
-use Rattle.pg_match.specs.Prelude.{All, Any, FinSet, nat_cmp, IsEquivalence, IsPartialEquivalence, decided, partial_equiv_from_equiv}
+use Rattle.std.specs.Prelude.{◌≡◌, ℕ, ◌+◌, ◌-◌, ◌^◌, Bool, true, false, ◌&&◌, List, ◌∷◌, ◌++◌, min}
+use Rattle.std.specs.Prelude.{take}
+use Rattle.pg_match.specs.Prelude.{All, Any, FinSet, nat_cmp, IsEquivalence, IsPartialEquivalence}
+use Rattle.pg_match.specs.Prelude.{decided, partial_equiv_from_equiv}
 use Rattle.std.specs.Str.{bytes_eq}
 use Rattle.std.specs.Bool.{Decides}
 use Rattle.std.proofs.Common.{sym, ap, ◌∙◌}
@@ -11,7 +13,8 @@ use Rattle.pg_base.specs.PointLemmas as points
 use Rattle.std.proofs.Common.{◌⊎◌, inl, inr, refl}
 use Rattle.std.specs.Coded.{Coded, code_by, coded×, coded⊎, coded_list, coded_ℕ}
 use Rattle.std.specs.FinSet as set
-use Rattle.pg_match.specs.Prelude.{Pair, Side, Game, Position, lookup, LruCache, lru_cache, put_entries}
+use Rattle.pg_match.specs.Prelude.{Pair, Side, Game, Position, lookup, LruCache, lru_cache}
+use Rattle.pg_match.specs.Prelude.{put_entries}
 use Rattle.pg_match.specs.Meant.{AreMeant, AreFree}
 use Rattle.pg_match.specs.Private.{Answer, FoundPairs, FoundShort, IsAnswer, told}
 use Rattle.pg_match.specs.declared.matching.Matching.{Matching}

@@ -1,8 +1,12 @@
 -- The status of each refusal.
 use Rattle.std.specs.Prelude.{ℕ}
 use Rattle.pg_messages.specs.declared.refusal.Refusal.{Refusal}
-use Rattle.pg_messages.specs.declared.refusal.Refusal.TheVariants.{NoMeaning, NoClaim, Game, Certificate, Rejected, RejectedSpan, RejectedVectors, RejectedImage, Record}
-use Rattle.pg_messages.specs.declared.statuses.TheConstants.{NO_MEANING, FAULTY_GAME, REFUSED, FAULTY_RECORD}
+use Rattle.pg_messages.specs.declared.refusal.Refusal.TheVariants.{NoMeaning, NoClaim, Game}
+use Rattle.pg_messages.specs.declared.refusal.Refusal.TheVariants.{Certificate, Rejected}
+use Rattle.pg_messages.specs.declared.refusal.Refusal.TheVariants.{RejectedSpan, RejectedVectors}
+use Rattle.pg_messages.specs.declared.refusal.Refusal.TheVariants.{RejectedImage, Record}
+use Rattle.pg_messages.specs.declared.statuses.TheConstants.{NO_MEANING, FAULTY_GAME, REFUSED}
+use Rattle.pg_messages.specs.declared.statuses.TheConstants.{FAULTY_RECORD}
 
 abbrev pub refusal_status : Refusal → ℕ
 refusal_status NoMeaning = NO_MEANING

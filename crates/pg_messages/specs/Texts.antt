@@ -5,16 +5,27 @@ use Rattle.pg_base.specs.Side.{side_word}
 use Rattle.pg_base.specs.Texts.{count_text}
 use Rattle.pg_base.specs.declared.goal.Goal.{Goal}
 use Rattle.pg_base.specs.declared.kind.Kind.{Kind}
-use Rattle.pg_base.specs.declared.kind.Kind.TheVariants.{MakerBreaker, MakerMaker, AvoiderEnforcer, Switching}
+use Rattle.pg_base.specs.declared.kind.Kind.TheVariants.{MakerBreaker, MakerMaker, AvoiderEnforcer}
+use Rattle.pg_base.specs.declared.kind.Kind.TheVariants.{Switching}
 use Rattle.pg_base.specs.declared.score.Score.{Score}
 use Rattle.pg_base.specs.declared.score.Score.TheVariants.{XWins, YWins, Draw as Drawn}
 use Rattle.pg_base.specs.declared.side.Side.{Side}
 use Rattle.pg_messages.specs.declared.message.Message.{Message}
-use Rattle.pg_messages.specs.declared.message.Message.TheVariants.{Refused, Accepted, Claim, Move, NoReply, Result, ClassShort, ClassCut, ClassMaker, ClassBreaker, ClassFirstMover, Unknown, LineGame, SwitchingGame, Expanded, Standing, Recorded, Lost, Reviewed, UnknownAt}
+use Rattle.pg_messages.specs.declared.message.Message.TheVariants.{Refused, Accepted, Claim, Move}
+use Rattle.pg_messages.specs.declared.message.Message.TheVariants.{NoReply, Result, ClassShort}
+use Rattle.pg_messages.specs.declared.message.Message.TheVariants.{ClassCut, ClassMaker}
+use Rattle.pg_messages.specs.declared.message.Message.TheVariants.{ClassBreaker, ClassFirstMover}
+use Rattle.pg_messages.specs.declared.message.Message.TheVariants.{Unknown, LineGame, SwitchingGame}
+use Rattle.pg_messages.specs.declared.message.Message.TheVariants.{Expanded, Standing, Recorded}
+use Rattle.pg_messages.specs.declared.message.Message.TheVariants.{Lost, Reviewed, UnknownAt}
 use Rattle.pg_messages.specs.declared.message.ReplyFault.{ReplyFault}
-use Rattle.pg_messages.specs.declared.message.ReplyFault.TheVariants.{NoNumber, NoPoint, Taken, Over, NothingToTakeBack}
+use Rattle.pg_messages.specs.declared.message.ReplyFault.TheVariants.{NoNumber, NoPoint, Taken}
+use Rattle.pg_messages.specs.declared.message.ReplyFault.TheVariants.{Over, NothingToTakeBack}
 use Rattle.pg_messages.specs.declared.refusal.Refusal.{Refusal}
-use Rattle.pg_messages.specs.declared.refusal.Refusal.TheVariants.{NoMeaning, NoClaim, Game, Certificate, Rejected, RejectedSpan, RejectedVectors, RejectedImage, Record}
+use Rattle.pg_messages.specs.declared.refusal.Refusal.TheVariants.{NoMeaning, NoClaim, Game}
+use Rattle.pg_messages.specs.declared.refusal.Refusal.TheVariants.{Certificate, Rejected}
+use Rattle.pg_messages.specs.declared.refusal.Refusal.TheVariants.{RejectedSpan, RejectedVectors}
+use Rattle.pg_messages.specs.declared.refusal.Refusal.TheVariants.{RejectedImage, Record}
 
 -- ---- refusals
 

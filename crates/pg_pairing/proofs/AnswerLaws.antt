@@ -1,11 +1,26 @@
 -- The answer by pairs is a free point, and the rest of the pairs holds after it.
-use Rattle.std.proofs.Common.{◌≡◌, ◌≢◌, ℕ, ◌<◌, Bool, true, false, not, List, [], ◌∷◌, Option, Some, None, unwrap_or, eqb, eqb-true, refl, sym, ap, ◌∙◌, subst, inl, inr, ◌⊎◌, arith}
-use Rattle.pg_pairing.proofs.Common.{cases_Bool, and_parts, and_from, or_from, not-true, not_from_false, false≢true, All-contains, same_Some, none-some, find, Contains, All, Kind, MakerBreaker, MakerMaker, AvoiderEnforcer, Switching, Pair, Side, X, Y, other, Game, Position, is_free, point_count, free_points, is_full, after, IsPosition, lowest_free, is_open, has_point, is_paired, is_loose, IsInGame, PairsHold, unpaired_due, partner, if_free, free_partner, pairs_answer, Contains-head, Contains-tail, list_any-none, list_any-one, Contains-filter, free-stays, free-was, turn-after_x, any-free_points, first_free}
+use Rattle.std.proofs.Common.{◌≡◌, ◌≢◌, ℕ, ◌<◌, Bool, true, false, not, List, [], ◌∷◌, Option, Some}
+use Rattle.std.proofs.Common.{None, unwrap_or, eqb, eqb-true, refl, sym, ap, ◌∙◌, subst, inl, inr}
+use Rattle.std.proofs.Common.{◌⊎◌, arith}
+use Rattle.pg_pairing.proofs.Common.{cases_Bool, and_parts, and_from, or_from, not-true}
+use Rattle.pg_pairing.proofs.Common.{not_from_false, false≢true, All-contains, same_Some, none-some}
+use Rattle.pg_pairing.proofs.Common.{find, Contains, All, Kind, MakerBreaker, MakerMaker}
+use Rattle.pg_pairing.proofs.Common.{AvoiderEnforcer, Switching, Pair, Side, X, Y, other, Game}
+use Rattle.pg_pairing.proofs.Common.{Position, is_free, point_count, free_points, is_full, after}
+use Rattle.pg_pairing.proofs.Common.{IsPosition, lowest_free, is_open, has_point, is_paired}
+use Rattle.pg_pairing.proofs.Common.{is_loose, IsInGame, PairsHold, unpaired_due, partner, if_free}
+use Rattle.pg_pairing.proofs.Common.{free_partner, pairs_answer, Contains-head, Contains-tail}
+use Rattle.pg_pairing.proofs.Common.{list_any-none, list_any-one, Contains-filter, free-stays}
+use Rattle.pg_pairing.proofs.Common.{free-was, turn-after_x, any-free_points, first_free}
 use Rattle.std.specs.Option.{option_or}
 use Rattle.pg_pairing.specs.Rest.{ArePairsOf, rest, RestHolds, MayClaim, HeldBefore}
 use Rattle.pg_pairing.proofs.Filters.{filter_narrower, filter_member, find_member, find_none}
-use Rattle.pg_pairing.proofs.OpenPairs.{Joins, joins, has_joined, joined_turned, joined_free, open_joined, joined_apart, joined_same, same_pair, open_was, rest-after, breaker_of-same, breaker_of-avoider, PairsHold-guard, PairsHold-outside, PairsHold-answered}
-use Rattle.pg_pairing.proofs.LeftOut.{is_left_out, free_member, some_left_out, is_loose-rest, leaves-taken, leaves-replied}
+use Rattle.pg_pairing.proofs.OpenPairs.{Joins, joins, has_joined, joined_turned, joined_free}
+use Rattle.pg_pairing.proofs.OpenPairs.{open_joined, joined_apart, joined_same, same_pair, open_was}
+use Rattle.pg_pairing.proofs.OpenPairs.{rest-after, breaker_of-same, breaker_of-avoider}
+use Rattle.pg_pairing.proofs.OpenPairs.{PairsHold-guard, PairsHold-outside, PairsHold-answered}
+use Rattle.pg_pairing.proofs.LeftOut.{is_left_out, free_member, some_left_out, is_loose-rest}
+use Rattle.pg_pairing.proofs.LeftOut.{leaves-taken, leaves-replied}
 
 -- ---- the partner
 

@@ -1,6 +1,11 @@
 -- Lists without the elements that fail a test, and counts of numbers.
-use Rattle.std.proofs.Common.{◌≡◌, ℕ, zero, suc, ◌+◌, ◌<◌, ◌≤◌, Bool, true, false, not, ◌&&◌, ◌||◌, List, [], ◌∷◌, length, Some, None, eqb, refl, sym, ap, ◌∙◌, subst, inl, inr, arith, eq-eqb, ne_eqb}
-use Rattle.pg_pairing.proofs.Common.{cases_Bool, cases_eq, false≢true, All-head, All-tail, All-contains, All-filter, All-contains_itself, filter_passes, same_Some, none-some, filter, find, range_with_len, Contains, All, list_any, Contains-head, Contains-tail, find_same}
+use Rattle.std.proofs.Common.{◌≡◌, ℕ, zero, suc, ◌+◌, ◌<◌, ◌≤◌, Bool, true, false, not, ◌&&◌, ◌||◌}
+use Rattle.std.proofs.Common.{List, [], ◌∷◌, length, Some, None, eqb, refl, sym, ap, ◌∙◌, subst}
+use Rattle.std.proofs.Common.{inl, inr, arith, eq-eqb, ne_eqb}
+use Rattle.pg_pairing.proofs.Common.{cases_Bool, cases_eq, false≢true, All-head, All-tail}
+use Rattle.pg_pairing.proofs.Common.{All-contains, All-filter, All-contains_itself, filter_passes}
+use Rattle.pg_pairing.proofs.Common.{same_Some, none-some, filter, find, range_with_len, Contains}
+use Rattle.pg_pairing.proofs.Common.{All, list_any, Contains-head, Contains-tail, find_same}
 use Rattle.std.proofs.lemmas.List.FromFn.{length-range_with_len, get_or-range_with_len}
 
 module _ {X : Type 0} where

@@ -1,9 +1,22 @@
 -- The free points that are in no pair, before and after a move.
-use Rattle.std.proofs.Common.{◌≡◌, ◌≢◌, ℕ, ◌+◌, ◌<◌, ◌≤◌, Bool, true, false, not, ◌&&◌, List, [], ◌∷◌, length, eqb, refl, sym, ap, ◌∙◌, subst, inl, inr, arith, eq-eqb, ne_eqb}
-use Rattle.pg_pairing.proofs.Common.{cases_Bool, cases_eq, and_parts, and_from, not-true, not_from_false, false≢true, All-contains, filter, Contains, range_with_len, Pair, Side, X, Y, Game, Position, is_free, point_count, free_points, after, is_open, has_point, is_paired, is_loose, IsInGame, PairsHold, PairsLeaveNone, unpaired, unpaired_due, filter_both, Contains-head, list_any-none, list_any-one, member-from_any, Contains-filter, All-from_members, false-at, free-stays, free-was, is_free-after, any_both}
+use Rattle.std.proofs.Common.{◌≡◌, ◌≢◌, ℕ, ◌+◌, ◌<◌, ◌≤◌, Bool, true, false, not, ◌&&◌, List, []}
+use Rattle.std.proofs.Common.{◌∷◌, length, eqb, refl, sym, ap, ◌∙◌, subst, inl, inr, arith, eq-eqb}
+use Rattle.std.proofs.Common.{ne_eqb}
+use Rattle.pg_pairing.proofs.Common.{cases_Bool, cases_eq, and_parts, and_from, not-true}
+use Rattle.pg_pairing.proofs.Common.{not_from_false, false≢true, All-contains, filter, Contains}
+use Rattle.pg_pairing.proofs.Common.{range_with_len, Pair, Side, X, Y, Game, Position, is_free}
+use Rattle.pg_pairing.proofs.Common.{point_count, free_points, after, is_open, has_point, is_paired}
+use Rattle.pg_pairing.proofs.Common.{is_loose, IsInGame, PairsHold, PairsLeaveNone, unpaired}
+use Rattle.pg_pairing.proofs.Common.{unpaired_due, filter_both, Contains-head, list_any-none}
+use Rattle.pg_pairing.proofs.Common.{list_any-one, member-from_any, Contains-filter}
+use Rattle.pg_pairing.proofs.Common.{All-from_members, false-at, free-stays, free-was}
+use Rattle.pg_pairing.proofs.Common.{is_free-after, any_both}
 use Rattle.pg_pairing.specs.Rest.{rest}
-use Rattle.pg_pairing.proofs.Filters.{filter_all, filter_member, filter_agree-range, in_range, below_range, one_equal, one_without, some_length}
-use Rattle.pg_pairing.proofs.OpenPairs.{Joins, joins, has_joined, joined_turned, one_of_joined, joined_free, joined_apart, outside_pair, same_pair, open_stays, open-of}
+use Rattle.pg_pairing.proofs.Filters.{filter_all, filter_member, filter_agree-range, in_range}
+use Rattle.pg_pairing.proofs.Filters.{below_range, one_equal, one_without, some_length}
+use Rattle.pg_pairing.proofs.OpenPairs.{Joins, joins, has_joined, joined_turned, one_of_joined}
+use Rattle.pg_pairing.proofs.OpenPairs.{joined_free, joined_apart, outside_pair, same_pair}
+use Rattle.pg_pairing.proofs.OpenPairs.{open_stays, open-of}
 
 -- whether the point is free and in no pair
 abbrev pub is_left_out : Position → List Pair → ℕ → Bool

@@ -1,6 +1,17 @@
 -- Pairs whose points are free, and that those which are left go on holding after moves.
-use Rattle.std.proofs.Common.{◌≡◌, ◌≢◌, ℕ, true, false, List, eqb, refl, sym, ap, ◌∙◌, subst, inl, inr, ◌⊎◌, eq-eqb, ne_eqb, eqb-true}
-use Rattle.pg_pairing.proofs.Common.{cases_Bool, cases_eq, and_parts, and_from, or_parts, or_from, or_cases, or_left, or_right, false≢true, All-filter, filter_passes, All-contains, filter, Contains, Any, AllPairs, FinSet, contains, nat_cmp, ShareNone, Kind, MakerBreaker, MakerMaker, AvoiderEnforcer, Switching, Pair, Side, Y, other, Game, Position, is_free, points_of, is_touched, is_filled, has_filled, lines_of, after, is_open, has_point, is_paired, IsInGame, SharesNone, HoldsPair, PairsHold, PairsLeaveNone, breaker_of, true-at, false-at, list_any-none, Contains-filter, All-from_members, apart-or_same, points_of-waiter, points-stay, own-point, free-of, free-stays, free-was, apart}
+use Rattle.std.proofs.Common.{◌≡◌, ◌≢◌, ℕ, true, false, List, eqb, refl, sym, ap, ◌∙◌, subst, inl}
+use Rattle.std.proofs.Common.{inr, ◌⊎◌, eq-eqb, ne_eqb, eqb-true}
+use Rattle.pg_pairing.proofs.Common.{cases_Bool, cases_eq, and_parts, and_from, or_parts, or_from}
+use Rattle.pg_pairing.proofs.Common.{or_cases, or_left, or_right, false≢true, All-filter}
+use Rattle.pg_pairing.proofs.Common.{filter_passes, All-contains, filter, Contains, Any, AllPairs}
+use Rattle.pg_pairing.proofs.Common.{FinSet, contains, nat_cmp, ShareNone, Kind, MakerBreaker}
+use Rattle.pg_pairing.proofs.Common.{MakerMaker, AvoiderEnforcer, Switching, Pair, Side, Y, other}
+use Rattle.pg_pairing.proofs.Common.{Game, Position, is_free, points_of, is_touched, is_filled}
+use Rattle.pg_pairing.proofs.Common.{has_filled, lines_of, after, is_open, has_point, is_paired}
+use Rattle.pg_pairing.proofs.Common.{IsInGame, SharesNone, HoldsPair, PairsHold, PairsLeaveNone}
+use Rattle.pg_pairing.proofs.Common.{breaker_of, true-at, false-at, list_any-none, Contains-filter}
+use Rattle.pg_pairing.proofs.Common.{All-from_members, apart-or_same, points_of-waiter, points-stay}
+use Rattle.pg_pairing.proofs.Common.{own-point, free-of, free-stays, free-was, apart}
 use Rattle.std.proofs.lemmas.List.Kept.{AllPairs-filter}
 use Rattle.pg_pairing.specs.Rest.{ArePairsOf, rest, RestHolds}
 use Rattle.pg_pairing.proofs.Filters.{filter_all, filter_narrower}

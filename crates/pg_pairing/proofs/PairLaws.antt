@@ -1,15 +1,23 @@
 -- Pairs that hold force the claim: a win for Breaker and for Avoider, and a draw at least for
 -- either side of Maker-Maker.
-use Rattle.std.proofs.Common.{◌≡◌, ◌≢◌, ℕ, ◌<◌, ◌≤◌, true, false, List, Option, Some, None, refl, sym, ap, ◌∙◌, subst, inl, inr, ◌⊎◌, arith}
-use Rattle.pg_pairing.proofs.Common.{ShareNone, Win, Kind, MakerBreaker, MakerMaker, AvoiderEnforcer, Pair, Side, X, Y, other, Game, Position, is_free, claims_in_turn, point_count, bias_of, has_filled, is_over, outcome, after, IsPosition, PairsHold, breaker_of, pairs_answer, reaches, Forces, is_full-one, side≢other, turn-replied, IsPosition-after}
+use Rattle.std.proofs.Common.{◌≡◌, ◌≢◌, ℕ, ◌<◌, ◌≤◌, true, false, List, Option, Some, None, refl}
+use Rattle.std.proofs.Common.{sym, ap, ◌∙◌, subst, inl, inr, ◌⊎◌, arith}
+use Rattle.pg_pairing.proofs.Common.{ShareNone, Win, Kind, MakerBreaker, MakerMaker}
+use Rattle.pg_pairing.proofs.Common.{AvoiderEnforcer, Pair, Side, X, Y, other, Game, Position}
+use Rattle.pg_pairing.proofs.Common.{is_free, claims_in_turn, point_count, bias_of, has_filled}
+use Rattle.pg_pairing.proofs.Common.{is_over, outcome, after, IsPosition, PairsHold, breaker_of}
+use Rattle.pg_pairing.proofs.Common.{pairs_answer, reaches, Forces, is_full-one, side≢other}
+use Rattle.pg_pairing.proofs.Common.{turn-replied, IsPosition-after}
 use Rattle.pg_base.specs.declared.goal.Goal.{Goal}
 use Rattle.pg_base.specs.declared.goal.Goal.TheVariants.{Draw as AtLeastDraw}
 use Rattle.pg_game.specs.Strategy.{Keeps}
 use Rattle.pg_game.proofs.Strategy.{Forces-from_keeps, free_point}
 use Rattle.pg_game.proofs.Unfilled.{unfilled-breaker, unfilled-draw, unfilled-avoider, maker_bias}
 use Rattle.pg_pairing.specs.Rest.{ArePairsOf, rest, RestHolds, MayClaim, HeldBefore}
-use Rattle.pg_pairing.proofs.OpenPairs.{RestHolds-from, ArePairsOf-from, breaker_of-same, breaker_of-avoider, unfilled-held, unfilled-replied}
-use Rattle.pg_pairing.proofs.AnswerLaws.{avoider_or_not, answer-free, RestHolds-enforcer, keeps_replied, keeps_unreplied}
+use Rattle.pg_pairing.proofs.OpenPairs.{RestHolds-from, ArePairsOf-from, breaker_of-same}
+use Rattle.pg_pairing.proofs.OpenPairs.{breaker_of-avoider, unfilled-held, unfilled-replied}
+use Rattle.pg_pairing.proofs.AnswerLaws.{avoider_or_not, answer-free, RestHolds-enforcer}
+use Rattle.pg_pairing.proofs.AnswerLaws.{keeps_replied, keeps_unreplied}
 
 -- the other side claims one point a turn
 abbrev ClaimsOne : Game → Side → Type 0

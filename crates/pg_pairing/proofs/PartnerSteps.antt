@@ -1,6 +1,13 @@
 -- The steps of the walks over pairs and over the points of a line.
-use Rattle.std.proofs.Common.{◌≡◌, ◌≢◌, ◌∙◌, ℕ, ◌+◌, ◌-◌, ◌<◌, ◌≤◌, Bool, true, false, ◌||◌, List, length, get_or, set, eqb, eqb-true, eq-eqb, refl, sym, ap, subst, inl, inr, arith}
-use Rattle.pg_pairing.proofs.Common.{cases_eq, or_cases, false≢true, length-set, get_or-set_same, get_or-set_other, get_or_default, Contains-get_or, All-weaker, All, AllPairs, Any, Contains, FinSet, contains, insert, nat_cmp, in_insert, MAX_MEMBERS, Pair, Game, is_touched, HoldsPair, IsInGame, IsSafe, SharesNone, point_count-le, list_any-none, list_any-one}
+use Rattle.std.proofs.Common.{◌≡◌, ◌≢◌, ◌∙◌, ℕ, ◌+◌, ◌-◌, ◌<◌, ◌≤◌, Bool, true, false, ◌||◌, List}
+use Rattle.std.proofs.Common.{length, get_or, set, eqb, eqb-true, eq-eqb, refl, sym, ap, subst, inl}
+use Rattle.std.proofs.Common.{inr, arith}
+use Rattle.pg_pairing.proofs.Common.{cases_eq, or_cases, false≢true, length-set, get_or-set_same}
+use Rattle.pg_pairing.proofs.Common.{get_or-set_other, get_or_default, Contains-get_or, All-weaker}
+use Rattle.pg_pairing.proofs.Common.{All, AllPairs, Any, Contains, FinSet, contains, insert}
+use Rattle.pg_pairing.proofs.Common.{nat_cmp, in_insert, MAX_MEMBERS, Pair, Game, is_touched}
+use Rattle.pg_pairing.proofs.Common.{HoldsPair, IsInGame, IsSafe, SharesNone, point_count-le}
+use Rattle.pg_pairing.proofs.Common.{list_any-none, list_any-one}
 use Rattle.pg_pairing.specs.Partners.{AreSmall, ArePartners, IsPairOf}
 use Rattle.pg_pairing.specs.declared.partners.TheConstants.{NO_POINT}
 

@@ -1,6 +1,8 @@
 -- The rest of the pairs: those whose two points are both free.
 use Rattle.std.specs.Prelude.{◌≡◌, ◌≢◌, ℕ, ◌<◌, true, List, Option, Some, None, filter}
-use Rattle.pg_pairing.specs.Prelude.{All, AllPairs, Kind, AvoiderEnforcer, MakerBreaker, Pair, Side, X, other, Game, Position, is_free, point_count, after, is_open, IsInGame, SharesNone, PairsHold}
+use Rattle.pg_pairing.specs.Prelude.{All, AllPairs, Kind, AvoiderEnforcer, MakerBreaker, Pair, Side}
+use Rattle.pg_pairing.specs.Prelude.{X, other, Game, Position, is_free, point_count, after, is_open}
+use Rattle.pg_pairing.specs.Prelude.{IsInGame, SharesNone, PairsHold}
 
 -- the pairs are of points of the game, all different
 pub record ArePairsOf (g : Game) (pairs : List Pair) : Type 0 where

@@ -1,13 +1,21 @@
 -- What a scan makes of the parts of a picture's text.
-use Rattle.std.proofs.Common.{◌≡◌, ℕ, zero, suc, ◌+◌, ◌<◌, ◌%◌, ◌/◌, ◌==◌, ◌&&◌, nat_le, nat_lt, Bool, true, false, if◌then◌else◌, List, [], ◌∷◌, ◌++◌, codes, decimal, refl, ap, ◌∙◌, arith, lt-ltb}
+use Rattle.std.proofs.Common.{◌≡◌, ℕ, zero, suc, ◌+◌, ◌<◌, ◌%◌, ◌/◌, ◌==◌, ◌&&◌, nat_le, nat_lt}
+use Rattle.std.proofs.Common.{Bool, true, false, if◌then◌else◌, List, [], ◌∷◌, ◌++◌, codes, decimal}
+use Rattle.std.proofs.Common.{refl, ap, ◌∙◌, arith, lt-ltb}
 use Rattle.std.specs.List.{flat_map}
 use Rattle.std.specs.Fmt.{digits_onto, digit_glyph, digits}
 use Rattle.pg_base.specs.Texts.{Bytes}
-use Rattle.pg_picture.specs.Svg.{Attribute, attribute_text, begun, class_name, escaped, escaped_byte, filled, head, inside_of, lone, numbered, painted, path_of, picture_text, place_text, shape_text}
+use Rattle.pg_picture.specs.Svg.{Attribute, attribute_text, begun, class_name, escaped}
+use Rattle.pg_picture.specs.Svg.{escaped_byte, filled, head, inside_of, lone, numbered, painted}
+use Rattle.pg_picture.specs.Svg.{path_of, picture_text, place_text, shape_text}
 use Rattle.pg_picture.specs.Tags.{CloseInOrder, Scan, next, scan}
 use Rattle.pg_picture.specs.Tags.Scan.{Between, Begun, Opening, Within, Quoted, Closing}
 use Rattle.pg_picture.specs.declared.paint.Paint.{Paint}
-use Rattle.pg_picture.specs.declared.paint.Paint.TheVariants.{Free, OfX, OfY, Terminal, Vertex, Line, Edge, EdgeOfX, EdgeOfY, Pair, First, Second, Extra, Step, Move, Reply, Fault, Number, Mark, Weight, Legend, Heading}
+use Rattle.pg_picture.specs.declared.paint.Paint.TheVariants.{Free, OfX, OfY, Terminal, Vertex}
+use Rattle.pg_picture.specs.declared.paint.Paint.TheVariants.{Line, Edge, EdgeOfX, EdgeOfY, Pair}
+use Rattle.pg_picture.specs.declared.paint.Paint.TheVariants.{First, Second, Extra, Step, Move}
+use Rattle.pg_picture.specs.declared.paint.Paint.TheVariants.{Reply, Fault, Number, Mark, Weight}
+use Rattle.pg_picture.specs.declared.paint.Paint.TheVariants.{Legend, Heading}
 use Rattle.pg_picture.specs.declared.picture.Picture.{Picture}
 use Rattle.pg_picture.specs.declared.shape.Place.{Place}
 use Rattle.pg_picture.specs.declared.shape.Shape.{Shape}

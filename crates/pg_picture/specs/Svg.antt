@@ -1,9 +1,14 @@
 -- The text of a picture: SVG 1.1, in ASCII.
-use Rattle.std.specs.Prelude.{ℕ, ◌%◌, ◌==◌, ◌&&◌, nat_lt, nat_le, if◌then◌else◌, List, [], ◌∷◌, ◌++◌, codes, decimal}
+use Rattle.std.specs.Prelude.{ℕ, ◌%◌, ◌==◌, ◌&&◌, nat_lt, nat_le, if◌then◌else◌, List, [], ◌∷◌}
+use Rattle.std.specs.Prelude.{◌++◌, codes, decimal}
 use Rattle.std.specs.List.{flat_map}
 use Rattle.pg_base.specs.Texts.{Bytes}
 use Rattle.pg_picture.specs.declared.paint.Paint.{Paint}
-use Rattle.pg_picture.specs.declared.paint.Paint.TheVariants.{Free, OfX, OfY, Terminal, Vertex, Line, Edge, EdgeOfX, EdgeOfY, Pair, First, Second, Extra, Step, Move, Reply, Fault, Number, Mark, Weight, Legend, Heading}
+use Rattle.pg_picture.specs.declared.paint.Paint.TheVariants.{Free, OfX, OfY, Terminal, Vertex}
+use Rattle.pg_picture.specs.declared.paint.Paint.TheVariants.{Line, Edge, EdgeOfX, EdgeOfY, Pair}
+use Rattle.pg_picture.specs.declared.paint.Paint.TheVariants.{First, Second, Extra, Step, Move}
+use Rattle.pg_picture.specs.declared.paint.Paint.TheVariants.{Reply, Fault, Number, Mark, Weight}
+use Rattle.pg_picture.specs.declared.paint.Paint.TheVariants.{Legend, Heading}
 use Rattle.pg_picture.specs.declared.picture.Picture.{Picture}
 use Rattle.pg_picture.specs.declared.shape.Place.{Place}
 use Rattle.pg_picture.specs.declared.shape.Shape.{Shape}

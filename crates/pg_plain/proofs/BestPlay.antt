@@ -1,6 +1,9 @@
 -- The best of the values after the moves from a point on.
-use Rattle.std.proofs.Common.{◌≡◌, ℕ, ◌+◌, ◌<◌, true, false, List, ◌∷◌, Some, None, if◌then◌else◌, refl, sym, ◌∙◌, subst, inl, inr}
-use Rattle.pg_plain.proofs.Common.{cases_Bool, cond-true, cond-false, Side, X, Y, Score, Game, Position, AreBelow, point_count, after, is_over, outcome, is_free, best, better, value}
+use Rattle.std.proofs.Common.{◌≡◌, ℕ, ◌+◌, ◌<◌, true, false, List, ◌∷◌, Some, None, if◌then◌else◌}
+use Rattle.std.proofs.Common.{refl, sym, ◌∙◌, subst, inl, inr}
+use Rattle.pg_plain.proofs.Common.{cases_Bool, cond-true, cond-false, Side, X, Y, Score, Game}
+use Rattle.pg_plain.proofs.Common.{Position, AreBelow, point_count, after, is_over, outcome}
+use Rattle.pg_plain.proofs.Common.{is_free, best, better, value}
 use Rattle.pg_game.proofs.Moves.{points-from}
 use Rattle.pg_plain.proofs.MovesFrom.{told_from, from-free, from-all}
 use Rattle.pg_game.proofs.ValueLaws.{value-step, value-over}

@@ -1,6 +1,11 @@
 -- The first criterion that applies, asked one after the other.
-use Rattle.std.proofs.Common.{◌≡◌, ℕ, Bool, true, false, ◌&&◌, Some, None, List, if◌then◌else◌, refl, sym, ap, ◌∙◌, ltb, lt-ltb, inl, inr}
-use Rattle.pg_plain.proofs.Common.{FinSet, contains, nat_cmp, cases_Bool, cond-true, cond-false, Score, Side, Game, Position, is_free, points_of, is_over, outcome, lines_of, point_count, breaker_of, decided, first_criterion, at_least, answer_for, defender, defends, attack_wins, pairs_exist, has_lines, avoider_can_pair}
+use Rattle.std.proofs.Common.{◌≡◌, ℕ, Bool, true, false, ◌&&◌, Some, None, List, if◌then◌else◌}
+use Rattle.std.proofs.Common.{refl, sym, ap, ◌∙◌, ltb, lt-ltb, inl, inr}
+use Rattle.pg_plain.proofs.Common.{FinSet, contains, nat_cmp, cases_Bool, cond-true, cond-false}
+use Rattle.pg_plain.proofs.Common.{Score, Side, Game, Position, is_free, points_of, is_over}
+use Rattle.pg_plain.proofs.Common.{outcome, lines_of, point_count, breaker_of, decided}
+use Rattle.pg_plain.proofs.Common.{first_criterion, at_least, answer_for, defender, defends}
+use Rattle.pg_plain.proofs.Common.{attack_wins, pairs_exist, has_lines, avoider_can_pair}
 use Rattle.std.proofs.lemmas.Option.{same_Some, none-some}
 use Rattle.pg_game.proofs.Limits.{lines-range}
 use Rattle.pg_plain.specs.PairSearch.{have_pairs}

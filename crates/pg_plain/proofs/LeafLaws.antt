@@ -1,6 +1,9 @@
 -- The two conditions by their parts, and that the parts fit 128 bits.
 use Rattle.std.proofs.Common.{◌≡◌, ℕ, ◌+◌, ◌*◌, ◌^◌, ◌≤◌, nat_lt, ap₂, arith}
-use Rattle.pg_plain.proofs.Common.{Side, Game, Position, points_of, free_points, total, weight, limit, greatest_weight, times_counted, potential_holds, avoider_risk, avoider_limit, avoider_holds, bias-few, total-few, greatest-le}
+use Rattle.pg_plain.proofs.Common.{Side, Game, Position, points_of, free_points, total, weight}
+use Rattle.pg_plain.proofs.Common.{limit, greatest_weight, times_counted, potential_holds}
+use Rattle.pg_plain.proofs.Common.{avoider_risk, avoider_limit, avoider_holds, bias-few, total-few}
+use Rattle.pg_plain.proofs.Common.{greatest-le}
 use Rattle.pg_game.proofs.LineSums.{weight-le-total}
 
 pub total-le : (g : Game) (p : Position) (side : Side) → total g p side ≤ 2 ^ 115

@@ -1,6 +1,8 @@
 -- What is told of a position from the moves to its free points, from one point on.
-use Rattle.std.proofs.Common.{◌≡◌, ℕ, suc, ◌+◌, ◌-◌, ◌<◌, true, false, List, ◌∷◌, [], map, refl, ap, ◌∙◌, arith}
-use Rattle.pg_plain.proofs.Common.{filter, range_with_len, Game, Position, point_count, free_points, is_free}
+use Rattle.std.proofs.Common.{◌≡◌, ℕ, suc, ◌+◌, ◌-◌, ◌<◌, true, false, List, ◌∷◌, [], map, refl, ap}
+use Rattle.std.proofs.Common.{◌∙◌, arith}
+use Rattle.pg_plain.proofs.Common.{filter, range_with_len, Game, Position, point_count, free_points}
+use Rattle.pg_plain.proofs.Common.{is_free}
 
 -- what a list of answers tells, and each move's answer
 module _ {A : Type 0} (g : Game) (p : Position) (of : List A → A) (answer : ℕ → A) where

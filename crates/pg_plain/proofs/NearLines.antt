@@ -1,7 +1,11 @@
 -- Threats are at points of lines, which are few; and threat lines by their first two points.
 use Rattle.std.specs.Prelude.{◌↔◌, IsTrue}
-use Rattle.std.proofs.Common.{◌≡◌, ℕ, ◌<◌, Bool, true, ◌&&◌, ◌||◌, ◌==◌, ◌≤◌, ◌-◌, List, [], ◌∷◌, length, get_or, take, drop, ap, ◌∙◌, subst, subst₂, arith}
-use Rattle.pg_plain.proofs.Common.{and_parts, eqb-true, All-contains, All, list_all, contains, Side, Game, Position, lines_of, after, is_free, points_of, is_on, is_near, threatens, Forcing, LeadsToLine, member-from_any, small_points}
+use Rattle.std.proofs.Common.{◌≡◌, ℕ, ◌<◌, Bool, true, ◌&&◌, ◌||◌, ◌==◌, ◌≤◌, ◌-◌, List, [], ◌∷◌}
+use Rattle.std.proofs.Common.{length, get_or, take, drop, ap, ◌∙◌, subst, subst₂, arith}
+use Rattle.pg_plain.proofs.Common.{and_parts, eqb-true, All-contains, All, list_all, contains, Side}
+use Rattle.pg_plain.proofs.Common.{Game, Position, lines_of, after, is_free, points_of, is_on}
+use Rattle.pg_plain.proofs.Common.{is_near, threatens, Forcing, LeadsToLine, member-from_any}
+use Rattle.pg_plain.proofs.Common.{small_points}
 use Rattle.std.proofs.lemmas.List.{take_all}
 
 -- a point of a line of small points is small

@@ -1,6 +1,9 @@
 -- What is known from the moves to the points from one on.
-use Rattle.std.proofs.Common.{◌≡◌, ℕ, ◌+◌, ◌<◌, Bool, true, false, Option, Some, None, is_some, List, ◌∷◌, [], refl, sym, ◌∙◌, inl, inr}
-use Rattle.pg_plain.proofs.Common.{cases_Bool, false≢true, list_any, list_all, Score, Side, X, Y, Game, Position, point_count, after, is_free, decided, by_moves, is_answer, is_listed, settled, settle-decided, settle-listed}
+use Rattle.std.proofs.Common.{◌≡◌, ℕ, ◌+◌, ◌<◌, Bool, true, false, Option, Some, None, is_some}
+use Rattle.std.proofs.Common.{List, ◌∷◌, [], refl, sym, ◌∙◌, inl, inr}
+use Rattle.pg_plain.proofs.Common.{cases_Bool, false≢true, list_any, list_all, Score, Side, X, Y}
+use Rattle.pg_plain.proofs.Common.{Game, Position, point_count, after, is_free, decided, by_moves}
+use Rattle.pg_plain.proofs.Common.{is_answer, is_listed, settled, settle-decided, settle-listed}
 use Rattle.pg_plain.proofs.MovesFrom.{told_from, from-free, from-all}
 use Rattle.pg_plain.specs.Known.{with_move}
 

@@ -1,8 +1,12 @@
 -- Trying every attack and every reply finds each threat line.
 use Rattle.std.specs.Prelude.{◌↔◌, IsTrue}
-use Rattle.pg_plain.proofs.Common.{cases_Bool, false≢true, ltb-true, ltb-false, list_any, Switching, Side, Game, Position, is_graph, is_switching, lines_of, is_filled, point_count, after, points_of, Forcing, Filling, LeadsToLine, has_threat_line}
+use Rattle.pg_plain.proofs.Common.{cases_Bool, false≢true, ltb-true, ltb-false, list_any, Switching}
+use Rattle.pg_plain.proofs.Common.{Side, Game, Position, is_graph, is_switching, lines_of}
+use Rattle.pg_plain.proofs.Common.{is_filled, point_count, after, points_of, Forcing, Filling}
+use Rattle.pg_plain.proofs.Common.{LeadsToLine, has_threat_line}
 use Rattle.std.specs.Cmp.{both_ways}
-use Rattle.std.proofs.Common.{◌≡◌, ◌≢◌, ℕ, ◌<◌, ◌≤◌, ◌+◌, ◌-◌, nat_lt, Bool, true, false, List, [], ◌∷◌, refl, sym, ap, ◌∙◌, subst, inl, inr, arith}
+use Rattle.std.proofs.Common.{◌≡◌, ◌≢◌, ℕ, ◌<◌, ◌≤◌, ◌+◌, ◌-◌, nat_lt, Bool, true, false, List, []}
+use Rattle.std.proofs.Common.{◌∷◌, refl, sym, ap, ◌∙◌, subst, inl, inr, arith}
 use Rattle.pg_base.specs.declared.kind.Kind.{Kind}
 use Rattle.pg_game.specs.declared.field.Field.{Field}
 use Rattle.pg_game.specs.declared.field.Field.TheVariants.{Lines, Graph as OnGraph}

@@ -1,6 +1,7 @@
 -- Lists of attacks and forced replies, by how many replies they force.
 use Rattle.std.specs.Prelude.{◌≡◌, ◌≢◌, ℕ, ◌≤◌, false, List}
-use Rattle.pg_plain.specs.Prelude.{Switching, Side, Game, Position, is_over, after, Forcing, LeadsToLine, depth_of}
+use Rattle.pg_plain.specs.Prelude.{Switching, Side, Game, Position, is_over, after, Forcing}
+use Rattle.pg_plain.specs.Prelude.{LeadsToLine, depth_of}
 
 -- each side claims one point a turn in a game on lines that isn't over
 pub record IsGoing (g : Game) (p : Position) : Type 0 where

@@ -1,6 +1,16 @@
 -- What a player has at a node of its claim when it comes there.
-use Rattle.std.proofs.Common.{◌≡◌, ◌∙◌, ℕ, zero, suc, ◌<◌, true, false, Option, Some, None, option_map, slice_get, refl, sym, ap, subst, inl, inr, arith}
-use Rattle.pg_player.proofs.Common.{∥∥₁_elim, le_prop, false≢true, Coded-set, coded_bool, other, Kind, MakerBreaker, MakerMaker, AvoiderEnforcer, Switching, Side, Game, Position, is_over, IsPosition, Forces, side≢other, Claim, Node, Body, Over, Move, All, Pairs, Potential, Trees, Cuts, Threat, Weaker, position_of, Standing, settles_by, settled_within, arrives, is_allowed, NamesEarlier, FollowMoves, HasTurn, TakesFree, EndsRight, PotentialFits, HasPairs, HasPotential, HasTrees, HasCuts, HasThreat, IsNoWorseThanNode, HasWeaker, IsNodeOf, IsOwed, IsSound, breaker_at, node_limits, some-left, Forces-node}
+use Rattle.std.proofs.Common.{◌≡◌, ◌∙◌, ℕ, zero, suc, ◌<◌, true, false, Option, Some, None}
+use Rattle.std.proofs.Common.{option_map, slice_get, refl, sym, ap, subst, inl, inr, arith}
+use Rattle.pg_player.proofs.Common.{∥∥₁_elim, le_prop, false≢true, Coded-set, coded_bool, other}
+use Rattle.pg_player.proofs.Common.{Kind, MakerBreaker, MakerMaker, AvoiderEnforcer, Switching}
+use Rattle.pg_player.proofs.Common.{Side, Game, Position, is_over, IsPosition, Forces, side≢other}
+use Rattle.pg_player.proofs.Common.{Claim, Node, Body, Over, Move, All, Pairs, Potential, Trees}
+use Rattle.pg_player.proofs.Common.{Cuts, Threat, Weaker, position_of, Standing, settles_by}
+use Rattle.pg_player.proofs.Common.{settled_within, arrives, is_allowed, NamesEarlier, FollowMoves}
+use Rattle.pg_player.proofs.Common.{HasTurn, TakesFree, EndsRight, PotentialFits, HasPairs}
+use Rattle.pg_player.proofs.Common.{HasPotential, HasTrees, HasCuts, HasThreat, IsNoWorseThanNode}
+use Rattle.pg_player.proofs.Common.{HasWeaker, IsNodeOf, IsOwed, IsSound, breaker_at, node_limits}
+use Rattle.pg_player.proofs.Common.{some-left, Forces-node}
 use Rattle.pg_pairing.proofs.OpenPairs.{RestHolds-from, ArePairsOf-from}
 use Rattle.pg_cert.specs.declared.node_fault.NodeFault.TheVariants as faults
 use Rattle.pg_player.specs.Beside.{IsBeside}

@@ -1,6 +1,7 @@
 -- What a player that imagines a position does in the true one.
 use Rattle.std.proofs.Common.{◌≡◌, ◌∙◌, ℕ, ◌<◌, true, false, sym, ap, subst, inl, inr}
-use Rattle.pg_player.proofs.Common.{cond-true, other, Goal, Side, Game, Position, is_free, point_count, is_over, after, IsPosition, Forces, free_or_lowest}
+use Rattle.pg_player.proofs.Common.{cond-true, other, Goal, Side, Game, Position, is_free}
+use Rattle.pg_player.proofs.Common.{point_count, is_over, after, IsPosition, Forces, free_or_lowest}
 use Rattle.pg_game.proofs.Imagining.{Forces-imagined, imagined-going, imagined-move, imagined-reply}
 use Rattle.pg_game.proofs.NoWorse.{IsNoWorse-trans}
 use Rattle.pg_player.specs.Beside.{IsBeside}

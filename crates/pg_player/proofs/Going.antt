@@ -1,11 +1,16 @@
 -- What a player keeps through a move and through a reply.
-use Rattle.std.proofs.Common.{◌≡◌, ◌∙◌, ℕ, ◌<◌, true, false, Option, Some, None, Ok, if◌then◌else◌, sym, subst, inl, inr, arith}
-use Rattle.pg_player.proofs.Common.{false≢true, AreBelow, other, Score, Room, Game, Position, is_free, point_count, is_over, outcome, after, IsMadeForGame, HasJoiner, judged_move, Forces, IsPosition-after, free_or_lowest, Claim, Standing, replied_by}
+use Rattle.std.proofs.Common.{◌≡◌, ◌∙◌, ℕ, ◌<◌, true, false, Option, Some, None, Ok, if◌then◌else◌}
+use Rattle.std.proofs.Common.{sym, subst, inl, inr, arith}
+use Rattle.pg_player.proofs.Common.{false≢true, AreBelow, other, Score, Room, Game, Position}
+use Rattle.pg_player.proofs.Common.{is_free, point_count, is_over, outcome, after, IsMadeForGame}
+use Rattle.pg_player.proofs.Common.{HasJoiner, judged_move, Forces, IsPosition-after}
+use Rattle.pg_player.proofs.Common.{free_or_lowest, Claim, Standing, replied_by}
 use Rattle.pg_game.proofs.Limits.{point_count-le}
 use Rattle.pg_player.specs.InPlay.{GoesOn, IsPlaying, IsReached, KeepsUp}
 use Rattle.pg_player.specs.Player.{Play, Waits, TakesReply, Moves, Answers}
 use Rattle.pg_player.specs.Stand.{LeadsOn}
-use Rattle.pg_player.proofs.Beside.{IsBeside-trans, beside-turn, beside-forces, beside-going, beside-move, beside-reply}
+use Rattle.pg_player.proofs.Beside.{IsBeside-trans, beside-turn, beside-forces, beside-going}
+use Rattle.pg_player.proofs.Beside.{beside-move, beside-reply}
 use Rattle.pg_player.proofs.Plays.{IsPosition-reached}
 use Rattle.pg_player.proofs.Replying.{IsLegal, judged-legal, leads_on, on-replied}
 

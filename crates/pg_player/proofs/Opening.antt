@@ -1,6 +1,13 @@
 -- What a player has when it is opened.
-use Rattle.std.proofs.Common.{◌≡◌, ◌∙◌, ℕ, ◌-◌, ◌<◌, Bool, true, List, [], ◌∷◌, Option, Some, None, find, length, get_or, slice_get, if◌then◌else◌, IfSome, refl, sym, ap, subst, inl, inr, arith, Contains}
-use Rattle.pg_player.proofs.Common.{∥∥₁_elim, ∥∥₁_map, le_prop, cases_Bool, and_parts, false≢true, slice_get-get_or, slice_get_read, slice_get_within, option_or, is_same_side, Score, Side, X, Y, Game, Position, is_over, outcome, start, with_turn, reaches, Forces, value-over, find_member, Cert, Claim, Node, IsClaim, IsWithinLimits, Standing, arrives, IsNodeOf, IsValid}
+use Rattle.std.proofs.Common.{◌≡◌, ◌∙◌, ℕ, ◌-◌, ◌<◌, Bool, true, List, [], ◌∷◌, Option, Some, None}
+use Rattle.std.proofs.Common.{find, length, get_or, slice_get, if◌then◌else◌, IfSome, refl, sym, ap}
+use Rattle.std.proofs.Common.{subst, inl, inr, arith, Contains}
+use Rattle.pg_player.proofs.Common.{∥∥₁_elim, ∥∥₁_map, le_prop, cases_Bool, and_parts, false≢true}
+use Rattle.pg_player.proofs.Common.{slice_get-get_or, slice_get_read, slice_get_within, option_or}
+use Rattle.pg_player.proofs.Common.{is_same_side, Score, Side, X, Y, Game, Position, is_over}
+use Rattle.pg_player.proofs.Common.{outcome, start, with_turn, reaches, Forces, value-over}
+use Rattle.pg_player.proofs.Common.{find_member, Cert, Claim, Node, IsClaim, IsWithinLimits}
+use Rattle.pg_player.proofs.Common.{Standing, arrives, IsNodeOf, IsValid}
 use Rattle.pg_cert.specs.declared.node_fault.NodeFault.TheVariants as faults
 use Rattle.pg_player.specs.InPlay.{GoesOn, IsSoundClaim}
 use Rattle.pg_player.specs.Stand.{Settles}

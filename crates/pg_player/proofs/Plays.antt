@@ -1,6 +1,10 @@
 -- Legal plays that go on, and turns that pass.
-use Rattle.std.proofs.Common.{◌≡◌, ◌∙◌, ℕ, ◌<◌, ◌≤◌, true, false, List, [], ◌∷◌, ◌++◌, refl, sym, ap, subst, inl, inr, arith}
-use Rattle.pg_player.proofs.Common.{cases_Bool, false≢true, other, Kind, Side, Game, Position, is_free, point_count, is_over, is_full, after, start, IsPosition, IsLegalPlay, played, side≢other, turn-alternates, IsPosition-start, IsPosition-played}
+use Rattle.std.proofs.Common.{◌≡◌, ◌∙◌, ℕ, ◌<◌, ◌≤◌, true, false, List, [], ◌∷◌, ◌++◌, refl, sym}
+use Rattle.std.proofs.Common.{ap, subst, inl, inr, arith}
+use Rattle.pg_player.proofs.Common.{cases_Bool, false≢true, other, Kind, Side, Game, Position}
+use Rattle.pg_player.proofs.Common.{is_free, point_count, is_over, is_full, after, start}
+use Rattle.pg_player.proofs.Common.{IsPosition, IsLegalPlay, played, side≢other, turn-alternates}
+use Rattle.pg_player.proofs.Common.{IsPosition-start, IsPosition-played}
 use Rattle.pg_game.specs.Fit.{greatest_bias}
 use Rattle.pg_game.proofs.Strategy.{over-where_full}
 use Rattle.pg_player.specs.InPlay.{IsReached}

@@ -1,6 +1,19 @@
 -- What a reply of the other side keeps, body by body.
-use Rattle.std.proofs.Common.{◌≡◌, ◌∙◌, ℕ, ◌<◌, ◌≤◌, Bool, true, false, ◌&&◌, ◌==◌, List, [], ◌∷◌, Option, Some, None, map, find, refl, sym, ap, subst, inl, inr, ◌⊎◌, arith, eqb, eqb-true, eq-eqb, ltb-true, nat_lt, if◌then◌else◌, Ok, Err}
-use Rattle.pg_player.proofs.Common.{cases_Bool, false≢true, both_ways, list_any, other, Goal, Kind, MakerBreaker, MakerMaker, AvoiderEnforcer, Switching, Side, X, Y, Game, Position, judged_move, is_free, point_count, bias_of, free_points, is_over, after, IsPosition, Forces, AvoiderHolds, side≢other, other_other, turn-passes, IsPosition-after, LeadsToLine, near-from, near-stays, near-filling, Forces-all-from, find_member, find_none, kept-reply_breaker, kept-reply_draw, kept-y, Claim, Node, Body, Over, Move, All, Pairs, Potential, Trees, Cuts, Threat, Weaker, Reply, Standing, arrives, replied_by, shows_defence, pairs_fit, PotentialFits, FollowsMove, IsNodeOf}
+use Rattle.std.proofs.Common.{◌≡◌, ◌∙◌, ℕ, ◌<◌, ◌≤◌, Bool, true, false, ◌&&◌, ◌==◌, List, [], ◌∷◌}
+use Rattle.std.proofs.Common.{Option, Some, None, map, find, refl, sym, ap, subst, inl, inr, ◌⊎◌}
+use Rattle.std.proofs.Common.{arith, eqb, eqb-true, eq-eqb, ltb-true, nat_lt, if◌then◌else◌, Ok}
+use Rattle.std.proofs.Common.{Err}
+use Rattle.pg_player.proofs.Common.{cases_Bool, false≢true, both_ways, list_any, other, Goal, Kind}
+use Rattle.pg_player.proofs.Common.{MakerBreaker, MakerMaker, AvoiderEnforcer, Switching, Side, X}
+use Rattle.pg_player.proofs.Common.{Y, Game, Position, judged_move, is_free, point_count, bias_of}
+use Rattle.pg_player.proofs.Common.{free_points, is_over, after, IsPosition, Forces, AvoiderHolds}
+use Rattle.pg_player.proofs.Common.{side≢other, other_other, turn-passes, IsPosition-after}
+use Rattle.pg_player.proofs.Common.{LeadsToLine, near-from, near-stays, near-filling}
+use Rattle.pg_player.proofs.Common.{Forces-all-from, find_member, find_none, kept-reply_breaker}
+use Rattle.pg_player.proofs.Common.{kept-reply_draw, kept-y, Claim, Node, Body, Over, Move, All}
+use Rattle.pg_player.proofs.Common.{Pairs, Potential, Trees, Cuts, Threat, Weaker, Reply, Standing}
+use Rattle.pg_player.proofs.Common.{arrives, replied_by, shows_defence, pairs_fit, PotentialFits}
+use Rattle.pg_player.proofs.Common.{FollowsMove, IsNodeOf}
 use Rattle.pg_game.specs.declared.position.Illegal.TheVariants as illegal
 use Rattle.pg_game.proofs.FreePoints.{any-free_points}
 use Rattle.pg_player.specs.Stand.{LeadsOn}

@@ -1,6 +1,9 @@
 -- From `weaker` to its child, until a node has another body.
-use Rattle.std.proofs.Common.{◌≡◌, ◌∙◌, ℕ, zero, suc, ◌<◌, List, length, get_or, Option, Some, None, slice_get, refl, sym, ap, subst, inl, inr, ◌⊎◌, arith}
-use Rattle.pg_player.proofs.Common.{slice_get_within, slice_get-get_or, Node, Body, Over, Move, All, Pairs, Potential, Trees, Cuts, Threat, Weaker, settles_by, settles_at, settled_within}
+use Rattle.std.proofs.Common.{◌≡◌, ◌∙◌, ℕ, zero, suc, ◌<◌, List, length, get_or, Option, Some, None}
+use Rattle.std.proofs.Common.{slice_get, refl, sym, ap, subst, inl, inr, ◌⊎◌, arith}
+use Rattle.pg_player.proofs.Common.{slice_get_within, slice_get-get_or, Node, Body, Over, Move, All}
+use Rattle.pg_player.proofs.Common.{Pairs, Potential, Trees, Cuts, Threat, Weaker, settles_by}
+use Rattle.pg_player.proofs.Common.{settles_at, settled_within}
 
 -- the body isn't `weaker`
 abbrev pub IsOwn : Body → Type 0

@@ -1,7 +1,21 @@
 -- The soundness of a node is decided by tests, so that it holds wherever it is known to hold
 -- without a proof at hand.
-use Rattle.std.proofs.Common.{◌≡◌, ◌∙◌, ℕ, suc, ◌<◌, ◌≤◌, Bool, true, false, ◌&&◌, List, Option, Some, None, slice_get, refl, sym, ap, subst, inl, inr, ◌⊎◌, arith, eqb, Any}
-use Rattle.pg_player.proofs.Common.{∥∥₁_elim, ∥∥₁_map, le_prop, cases_lt, and_parts, Coded-set, coded_ℕ, coded_bool, coded_list, FinSet, contains, list_any, nat_cmp, AreBelow, Goal, Kind, MakerBreaker, MakerMaker, AvoiderEnforcer, Switching, Pair, Side, X, Y, Field, Lines, Game, Position, point_count, after, is_free, PairsHold, HoldsPair, IsThreatLine, IsFreeEdge, AreFreeWithE, AreTrees, AreCuts, TreesHoldOn, CutsHoldOn, with_set, IsNoWorse, Claim, Node, Body, Over, Move, Pairs, Potential, Trees, Cuts, Threat, Weaker, position_of, IsInGame, NamesEarlier, IsNodeOf, FollowsMove, FollowMoves, HasTurn, TakesFree, EndsRight, PotentialFits, with_e_named, HasPairs, HasPotential, HasTrees, HasCuts, HasThreat, IsNoWorseThanNode, HasWeaker, Passes, IsSound, IsValidClaim}
+use Rattle.std.proofs.Common.{◌≡◌, ◌∙◌, ℕ, suc, ◌<◌, ◌≤◌, Bool, true, false, ◌&&◌, List, Option}
+use Rattle.std.proofs.Common.{Some, None, slice_get, refl, sym, ap, subst, inl, inr, ◌⊎◌, arith}
+use Rattle.std.proofs.Common.{eqb, Any}
+use Rattle.pg_player.proofs.Common.{∥∥₁_elim, ∥∥₁_map, le_prop, cases_lt, and_parts, Coded-set}
+use Rattle.pg_player.proofs.Common.{coded_ℕ, coded_bool, coded_list, FinSet, contains, list_any}
+use Rattle.pg_player.proofs.Common.{nat_cmp, AreBelow, Goal, Kind, MakerBreaker, MakerMaker}
+use Rattle.pg_player.proofs.Common.{AvoiderEnforcer, Switching, Pair, Side, X, Y, Field, Lines}
+use Rattle.pg_player.proofs.Common.{Game, Position, point_count, after, is_free, PairsHold}
+use Rattle.pg_player.proofs.Common.{HoldsPair, IsThreatLine, IsFreeEdge, AreFreeWithE, AreTrees}
+use Rattle.pg_player.proofs.Common.{AreCuts, TreesHoldOn, CutsHoldOn, with_set, IsNoWorse, Claim}
+use Rattle.pg_player.proofs.Common.{Node, Body, Over, Move, Pairs, Potential, Trees, Cuts, Threat}
+use Rattle.pg_player.proofs.Common.{Weaker, position_of, IsInGame, NamesEarlier, IsNodeOf}
+use Rattle.pg_player.proofs.Common.{FollowsMove, FollowMoves, HasTurn, TakesFree, EndsRight}
+use Rattle.pg_player.proofs.Common.{PotentialFits, with_e_named, HasPairs, HasPotential, HasTrees}
+use Rattle.pg_player.proofs.Common.{HasCuts, HasThreat, IsNoWorseThanNode, HasWeaker, Passes}
+use Rattle.pg_player.proofs.Common.{IsSound, IsValidClaim}
 use Rattle.pg_base.specs.Sets.{IsBelow}
 use Rattle.pg_base.specs.contracts.side.Side as side_row
 use Rattle.pg_graph.specs.declared.graph.Graph.{Graph}

@@ -1,7 +1,17 @@
 -- What keeps a player going: facts on its claim, its position and where it stands, which every move
 -- and every reply keep.
-use Rattle.std.specs.Prelude.{◌≡◌, ◌⊎◌, ℕ, ◌<◌, true, false, List, [], ◌∷◌, map, Option, Some, None, if◌then◌else◌}
-use Rattle.pg_player.specs.Prelude.{other, Kind, MakerBreaker, MakerMaker, AvoiderEnforcer, Pair, Score, Side, Room, Game, Position, is_free, point_count, free_points, is_over, outcome, after, start, IsPosition, IsMadeForGame, HasJoiner, IsLegalPlay, played, Forces, PotentialHolds, AvoiderHolds, threatens, has_threat, LeadsToLine, TreesHold, CutsHold, Claim, Node, Body, Over, Move, All, Pairs, Potential, Trees, Cuts, Threat, Weaker, Reply, IsClaim, is_allowed, IsNodeOf, FollowsMove, PotentialFits, with_e_named, IsValidClaim, Standing, own_move, ArePairsOf, RestHolds, HeldBefore, HeldUntil}
+use Rattle.std.specs.Prelude.{◌≡◌, ◌⊎◌, ℕ, ◌<◌, true, false, List, [], ◌∷◌, map, Option, Some, None}
+use Rattle.std.specs.Prelude.{if◌then◌else◌}
+use Rattle.pg_player.specs.Prelude.{other, Kind, MakerBreaker, MakerMaker, AvoiderEnforcer, Pair}
+use Rattle.pg_player.specs.Prelude.{Score, Side, Room, Game, Position, is_free, point_count}
+use Rattle.pg_player.specs.Prelude.{free_points, is_over, outcome, after, start, IsPosition}
+use Rattle.pg_player.specs.Prelude.{IsMadeForGame, HasJoiner, IsLegalPlay, played, Forces}
+use Rattle.pg_player.specs.Prelude.{PotentialHolds, AvoiderHolds, threatens, has_threat}
+use Rattle.pg_player.specs.Prelude.{LeadsToLine, TreesHold, CutsHold, Claim, Node, Body, Over, Move}
+use Rattle.pg_player.specs.Prelude.{All, Pairs, Potential, Trees, Cuts, Threat, Weaker, Reply}
+use Rattle.pg_player.specs.Prelude.{IsClaim, is_allowed, IsNodeOf, FollowsMove, PotentialFits}
+use Rattle.pg_player.specs.Prelude.{with_e_named, IsValidClaim, Standing, own_move, ArePairsOf}
+use Rattle.pg_player.specs.Prelude.{RestHolds, HeldBefore, HeldUntil}
 use Rattle.std.specs.List.{All as Each}
 use Rattle.pg_player.specs.Beside.{IsBeside}
 

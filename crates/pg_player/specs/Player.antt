@@ -1,7 +1,10 @@
 -- What is seen of a player: the game, the claim that it plays, the position, and where it stands,
 -- with the position that it imagines.
-use Rattle.std.specs.Prelude.{◌≡◌, ◌⊎◌, ℕ, ◌<◌, Bool, true, false, ◌&&◌, Option, Some, None, Ok, find}
-use Rattle.pg_player.specs.Prelude.{option_or, other, is_same_side, Goal, Win, Side, Game, Position, is_free, point_count, is_over, after, judged_move, Cert, Claim, Standing, OwnMove, own_move, played_point, replied}
+use Rattle.std.specs.Prelude.{◌≡◌, ◌⊎◌, ℕ, ◌<◌, Bool, true, false, ◌&&◌, Option, Some, None, Ok}
+use Rattle.std.specs.Prelude.{find}
+use Rattle.pg_player.specs.Prelude.{option_or, other, is_same_side, Goal, Win, Side, Game, Position}
+use Rattle.pg_player.specs.Prelude.{is_free, point_count, is_over, after, judged_move, Cert, Claim}
+use Rattle.pg_player.specs.Prelude.{Standing, OwnMove, own_move, played_point, replied}
 use Rattle.pg_base.specs.declared.goal.Goal.TheVariants.{Draw as AtLeastDraw}
 
 -- the game, the claim that is played, the true position, and where the player stands

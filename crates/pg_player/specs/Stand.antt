@@ -1,6 +1,8 @@
 -- What the code keeps of a standing.
-use Rattle.std.specs.Prelude.{◌≡◌, ◌==◌, ℕ, false, List, [], ◌∷◌, drop, Option, Some, None, find, slice_get}
-use Rattle.pg_player.specs.Prelude.{Body, Over, Move, All, Trees, Cuts, Threat, Weaker, Node, Reply, Standing, settled}
+use Rattle.std.specs.Prelude.{◌≡◌, ◌==◌, ℕ, false, List, [], ◌∷◌, drop, Option, Some, None, find}
+use Rattle.std.specs.Prelude.{slice_get}
+use Rattle.pg_player.specs.Prelude.{Body, Over, Move, All, Trees, Cuts, Threat, Weaker, Node, Reply}
+use Rattle.pg_player.specs.Prelude.{Standing, settled}
 use Rattle.pg_player.specs.declared.standing.Rest.{Rest}
 use Rattle.pg_player.specs.declared.standing.Rest.TheVariants as rest
 use Rattle.pg_player.specs.declared.standing.Stand.{Stand}

@@ -1,6 +1,14 @@
 -- The claim that the root's answer makes.
-use Rattle.std.proofs.Common.{◌≡◌, ℕ, suc, ◌+◌, ◌*◌, ◌<◌, ◌≤◌, ◌⊎◌, inl, inr, Bool, true, false, Option, Some, List, [], length, get_or, take, sym, ap, ◌∙◌, subst, arith, slice_get}
-use Rattle.pg_pns.proofs.Common.{cases_eq, slice_get_within, slice_get-get_or, length-take-le, Contains, count_by, Position, Side, Body, Over, Move, Pairs, Potential, Trees, Cuts, Threat, Weaker, Node, nodes-cut, Game, Goal, Score, free_points, start, with_turn, NodesHold, position_of, Claim, claimer, claimed_goal, criterion_of, AreMarked, IsMoved, IsPruned, IsUsed, Renumbers, is_none, one_at, from_take, in_take, same_some}
+use Rattle.std.proofs.Common.{◌≡◌, ℕ, suc, ◌+◌, ◌*◌, ◌<◌, ◌≤◌, ◌⊎◌, inl, inr, Bool, true, false}
+use Rattle.std.proofs.Common.{Option, Some, List, [], length, get_or, take, sym, ap, ◌∙◌, subst}
+use Rattle.std.proofs.Common.{arith, slice_get}
+use Rattle.pg_pns.proofs.Common.{cases_eq, slice_get_within, slice_get-get_or, length-take-le}
+use Rattle.pg_pns.proofs.Common.{Contains, count_by, Position, Side, Body, Over, Move, Pairs}
+use Rattle.pg_pns.proofs.Common.{Potential, Trees, Cuts, Threat, Weaker, Node, nodes-cut, Game}
+use Rattle.pg_pns.proofs.Common.{Goal, Score, free_points, start, with_turn, NodesHold, position_of}
+use Rattle.pg_pns.proofs.Common.{Claim, claimer, claimed_goal, criterion_of, AreMarked, IsMoved}
+use Rattle.pg_pns.proofs.Common.{IsPruned, IsUsed, Renumbers, is_none, one_at, from_take, in_take}
+use Rattle.pg_pns.proofs.Common.{same_some}
 use Rattle.pg_cert.specs.declared.node.Body.TheVariants.{All as AllReplies}
 use Rattle.pg_pns.proofs.ValidNodes.{valid-claim, within-limits, of-version}
 use Rattle.pg_pns.specs.declared.known.Answered.{Answered}

@@ -1,9 +1,15 @@
 -- The walk from the root comes to a place that can be expanded.
-use Rattle.std.proofs.Common.{◌≡◌, ℕ, zero, suc, ◌+◌, ◌<◌, ◌≤◌, Option, Some, None, List, [], ◌∷◌, ◌++◌, take, length, get_or, refl, sym, ap, ◌∙◌, subst, inl, inr, arith, slice_get}
-use Rattle.pg_pns.proofs.Common.{take_more, Contains-get_or, slice_get_within, slice_get-get_or, get_or_from_slice_get, slice_get_read, All, Contains, Score, Game, Position, free_points, start, after, Stand, View, length-free_points-after, in_free_points, some≢none, contains_push}
+use Rattle.std.proofs.Common.{◌≡◌, ℕ, zero, suc, ◌+◌, ◌<◌, ◌≤◌, Option, Some, None, List, [], ◌∷◌}
+use Rattle.std.proofs.Common.{◌++◌, take, length, get_or, refl, sym, ap, ◌∙◌, subst, inl, inr}
+use Rattle.std.proofs.Common.{arith, slice_get}
+use Rattle.pg_pns.proofs.Common.{take_more, Contains-get_or, slice_get_within, slice_get-get_or}
+use Rattle.pg_pns.proofs.Common.{get_or_from_slice_get, slice_get_read, All, Contains, Score, Game}
+use Rattle.pg_pns.proofs.Common.{Position, free_points, start, after, Stand, View}
+use Rattle.pg_pns.proofs.Common.{length-free_points-after, in_free_points, some≢none, contains_push}
 use Rattle.pg_pns.specs.declared.known.Answered.{Answered}
 use Rattle.pg_pns.specs.declared.table.Table.{Table}
-use Rattle.pg_pns.specs.Descent.{IsOpenMove, HasOpen, IsOnWay, IsStep, IsAtStart, GoesDown, GoesUp, first_stand, free_at}
+use Rattle.pg_pns.specs.Descent.{IsOpenMove, HasOpen, IsOnWay, IsStep, IsAtStart, GoesDown, GoesUp}
+use Rattle.pg_pns.specs.Descent.{first_stand, free_at}
 use Rattle.pg_pns.specs.Known.{answer_at}
 use Rattle.pg_pns.specs.Settles.{by_answers}
 use Rattle.pg_pns.specs.Search.{IsSearch, IsNext}

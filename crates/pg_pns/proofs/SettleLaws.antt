@@ -1,7 +1,13 @@
 -- What is closed under the rules of settling has all that is settled, and a longer list settles
 -- more.
-use Rattle.std.proofs.Common.{◌≡◌, ℕ, zero, suc, get_or, ◌<◌, ◌≤◌, Bool, true, Option, Some, None, List, [], ◌∷◌, map, length, refl, sym, ap, ◌∙◌, subst, inl, inr, ◌⊎◌, arith}
-use Rattle.pg_pns.proofs.Common.{cases_Bool, Contains, Position, Game, Score, free_points, after, length-free_points-after, Contains-head, Contains-tail, free_point, decided, by_moves, is_listed, settled, undecided-going, in_free_points, settle-decided, settle-listed, settle-unlisted, some≢none}
+use Rattle.std.proofs.Common.{◌≡◌, ℕ, zero, suc, get_or, ◌<◌, ◌≤◌, Bool, true, Option, Some, None}
+use Rattle.std.proofs.Common.{List, [], ◌∷◌, map, length, refl, sym, ap, ◌∙◌, subst, inl, inr, ◌⊎◌}
+use Rattle.std.proofs.Common.{arith}
+use Rattle.pg_pns.proofs.Common.{cases_Bool, Contains, Position, Game, Score, free_points, after}
+use Rattle.pg_pns.proofs.Common.{length-free_points-after, Contains-head, Contains-tail, free_point}
+use Rattle.pg_pns.proofs.Common.{decided, by_moves, is_listed, settled, undecided-going}
+use Rattle.pg_pns.proofs.Common.{in_free_points, settle-decided, settle-listed, settle-unlisted}
+use Rattle.pg_pns.proofs.Common.{some≢none}
 use Rattle.pg_pns.proofs.ByMoves.{by_moves-more}
 
 -- ---- answers that are closed under the rules have all that is settled

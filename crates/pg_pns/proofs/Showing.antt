@@ -1,7 +1,20 @@
 -- Nodes that show answers, when one is added.
-use Rattle.std.proofs.Common.{◌≡◌, ℕ, zero, suc, ◌+◌, ◌<◌, ◌≤◌, Bool, true, false, not, cond, Option, Some, None, List, [], ◌∷◌, ◌++◌, map, length, get_or, refl, sym, ap, ◌∙◌, subst, inl, inr, ◌⊎◌, arith, slice_get, slice_set, length-append}
+use Rattle.std.proofs.Common.{◌≡◌, ℕ, zero, suc, ◌+◌, ◌<◌, ◌≤◌, Bool, true, false, not, cond}
+use Rattle.std.proofs.Common.{Option, Some, None, List, [], ◌∷◌, ◌++◌, map, length, get_or, refl}
+use Rattle.std.proofs.Common.{sym, ap, ◌∙◌, subst, inl, inr, ◌⊎◌, arith, slice_get, slice_set}
+use Rattle.std.proofs.Common.{length-append}
 use Rattle.std.specs.Prelude.{nat_le}
-use Rattle.pg_pns.proofs.Common.{cases_Bool, cases_eq, false≢true, le-leb, and_from, filter, range_with_len, slice_get_within, slice_get-get_or, get_or_from_slice_get, sum_by-set, length-set, Contains, count_by, is_none, Position, Side, X, Y, is_free, Node, Body, Over, Move, Pairs, Potential, Trees, Cuts, Threat, Weaker, Reply, IsNodeOf, point_count-le, criterion_of, first_criterion, nodes-push, Game, Goal, Score, NodesHold, BodyHolds, position_of, is_over, free_points, point_count, after, decided, claimer, claimed_goal, answer_for, undecided-going, in_free_points, at_push, at_old, at_new, at_contains, at_set_other, at_set_same, map-same_at, same_some}
+use Rattle.pg_pns.proofs.Common.{cases_Bool, cases_eq, false≢true, le-leb, and_from, filter}
+use Rattle.pg_pns.proofs.Common.{range_with_len, slice_get_within, slice_get-get_or}
+use Rattle.pg_pns.proofs.Common.{get_or_from_slice_get, sum_by-set, length-set, Contains, count_by}
+use Rattle.pg_pns.proofs.Common.{is_none, Position, Side, X, Y, is_free, Node, Body, Over, Move}
+use Rattle.pg_pns.proofs.Common.{Pairs, Potential, Trees, Cuts, Threat, Weaker, Reply, IsNodeOf}
+use Rattle.pg_pns.proofs.Common.{point_count-le, criterion_of, first_criterion, nodes-push, Game}
+use Rattle.pg_pns.proofs.Common.{Goal, Score, NodesHold, BodyHolds, position_of, is_over}
+use Rattle.pg_pns.proofs.Common.{free_points, point_count, after, decided, claimer, claimed_goal}
+use Rattle.pg_pns.proofs.Common.{answer_for, undecided-going, in_free_points, at_push, at_old}
+use Rattle.pg_pns.proofs.Common.{at_new, at_contains, at_set_other, at_set_same, map-same_at}
+use Rattle.pg_pns.proofs.Common.{same_some}
 use Rattle.pg_base.specs.Side.{other}
 use Rattle.pg_cert.specs.declared.node.Body.TheVariants.{All}
 use Rattle.pg_text.specs.Text.{ascend_from}

@@ -1,6 +1,8 @@
 -- The walk from the root to the position that is expanded next, on the board too.
-use Rattle.std.specs.Prelude.{◌≡◌, ◌<◌, ℕ, true, List, [], get_or, length, Option, Some, None, slice_get, ◌⊎◌}
-use Rattle.pg_pns.specs.Prelude.{Contains, Game, Position, is_free, free_points, point_count, start, after, Stand, View}
+use Rattle.std.specs.Prelude.{◌≡◌, ◌<◌, ℕ, true, List, [], get_or, length, Option, Some, None}
+use Rattle.std.specs.Prelude.{slice_get, ◌⊎◌}
+use Rattle.pg_pns.specs.Prelude.{Contains, Game, Position, is_free, free_points, point_count, start}
+use Rattle.pg_pns.specs.Prelude.{after, Stand, View}
 use Rattle.pg_pns.specs.declared.known.Answered.{Answered}
 use Rattle.pg_pns.specs.declared.table.Table.{Table}
 use Rattle.pg_pns.specs.Known.{answer_at}

@@ -1,7 +1,6 @@
 -- What the definitions of this crate name of std and of the crates below.
 pub use Rattle.pg_base.specs.declared.goal.Goal.{Goal}
 pub use Rattle.pg_base.specs.declared.kind.Kind.TheVariants.{Switching}
-pub use Rattle.pg_base.specs.declared.limits.TheConstants.{MAX_MEMBERS}
 pub use Rattle.pg_base.specs.declared.score.Score.{Score}
 pub use Rattle.pg_base.specs.declared.side.Side.{Side}
 pub use Rattle.pg_base.specs.declared.side.Side.TheVariants.{X, Y}
@@ -13,11 +12,13 @@ pub use Rattle.pg_cert.specs.declared.cert.Claim.{Claim}
 pub use Rattle.pg_cert.specs.declared.cert.Version.TheVariants.{One}
 pub use Rattle.pg_cert.specs.declared.limits.TheConstants.{MAX_CLAIM_NODES}
 pub use Rattle.pg_cert.specs.declared.node.Body.{Body}
-pub use Rattle.pg_cert.specs.declared.node.Body.TheVariants.{Cuts, Move, Over, Pairs, Potential, Threat, Trees, Weaker}
+pub use Rattle.pg_cert.specs.declared.node.Body.TheVariants.{Cuts, Move, Over, Pairs, Potential}
+pub use Rattle.pg_cert.specs.declared.node.Body.TheVariants.{Threat, Trees, Weaker}
 pub use Rattle.pg_cert.specs.declared.node.Node.{Node}
 pub use Rattle.pg_cert.specs.declared.reply.Reply.{Reply}
 pub use Rattle.pg_game.specs.Decided.{IsQuestion, answer_for, claimed_goal, claimer, decided}
-pub use Rattle.pg_game.specs.Game.{IsPosition, after, bias_of, is_over, lines_of, point_count, start, with_turn}
+pub use Rattle.pg_game.specs.Game.{IsPosition, after, bias_of, is_over, lines_of, point_count}
+pub use Rattle.pg_game.specs.Game.{start, with_turn}
 unfoldable pub use Rattle.pg_game.specs.Game.{free_points}
 pub use Rattle.pg_game.specs.Position.{is_free}
 pub use Rattle.pg_game.specs.PositionLemmas.{equal_positions, equal_positions-decides}
@@ -31,7 +32,8 @@ pub use Rattle.pg_leaf.specs.Pruned.{AreMarked, IsMoved, IsPruned, IsUsed, Renum
 pub use Rattle.pg_leaf.specs.Sound.{BodyHolds, NodesHold}
 pub use Rattle.pg_match.specs.Cache.{Cache, Fits}
 pub use Rattle.std.specs.HashMap.{get}
-pub use Rattle.std.specs.List.{All, Contains, count_by, filter, list_all, list_any, range_with_len, sum_by}
+pub use Rattle.std.specs.List.{All, Contains, count_by, filter, list_all, list_any, range_with_len}
+pub use Rattle.std.specs.List.{sum_by}
 pub use Rattle.std.specs.Map.{keys_of, lookup}
 pub use Rattle.std.specs.Option.{IfNone, is_none, is_some}
 pub use Rattle.std.specs.Vec.{with_items}

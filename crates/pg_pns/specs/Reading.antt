@@ -1,6 +1,7 @@
 -- What a search is asked, and what it reads the answers of criteria from.
 use Rattle.std.specs.Prelude.{◌≡◌, ◌≢◌, ◌<◌, ℕ, true}
-use Rattle.pg_pns.specs.Prelude.{Cache, Fits, Game, IsAt, IsPosition, IsQuestion, Position, Score, Switching, View, is_free, lines_of, point_count}
+use Rattle.pg_pns.specs.Prelude.{Cache, Fits, Game, IsAt, IsPosition, IsQuestion, Position, Score}
+use Rattle.pg_pns.specs.Prelude.{Switching, View, is_free, lines_of, point_count}
 use Rattle.pg_pns.specs.Descent.{IsAtStart}
 
 -- the game is on lines, and the question is one for its kind

@@ -1,10 +1,14 @@
 -- Lists of lines to which lines are added.
-use Rattle.std.proofs.Common.{◌≡◌, ℕ, ◌+◌, ◌<◌, ◌≤◌, Bool, true, false, List, [], ◌∷◌, ◌++◌, refl, sym, subst, arith, inl, inr}
+use Rattle.std.proofs.Common.{◌≡◌, ℕ, ◌+◌, ◌<◌, ◌≤◌, Bool, true, false, List, [], ◌∷◌, ◌++◌, refl}
+use Rattle.std.proofs.Common.{sym, subst, arith, inl, inr}
 use Rattle.std.specs.Prelude.{◌⊎◌}
-use Rattle.pg_poly.proofs.Common.{Contains, IsPermutation, cases_eq, Contains-append_left, Contains-push, Contains-push_cases, IsPermutation-sym, IsPermutation-trans, Grid}
+use Rattle.pg_poly.proofs.Common.{Contains, IsPermutation, cases_eq, Contains-append_left}
+use Rattle.pg_poly.proofs.Common.{Contains-push, Contains-push_cases, IsPermutation-sym}
+use Rattle.pg_poly.proofs.Common.{IsPermutation-trans, Grid}
 use Rattle.pg_poly.specs.declared.cell.Cell.{Cell}
 use Rattle.pg_poly.specs.declared.motion.Motion.{Motion}
-use Rattle.pg_poly.specs.Motions.{Adds, IsImage, IsMoved, IsSet, IsSetBefore, motion_to, moved_points}
+use Rattle.pg_poly.specs.Motions.{Adds, IsImage, IsMoved, IsSet, IsSetBefore, motion_to}
+use Rattle.pg_poly.specs.Motions.{moved_points}
 use Rattle.pg_base.specs.Line.{StandsTwice}
 use Rattle.pg_base.proofs.LineLemmas.{not_twice}
 use Rattle.pg_poly.proofs.Lists.{one_order_of_points}

@@ -1,7 +1,15 @@
 -- Lists of lists in order.
-use Rattle.std.proofs.Common.{◌≡◌, ◌∙◌, ℕ, zero, suc, ◌+◌, ◌<◌, ◌≤◌, Bool, true, false, cond, ◌||◌, List, [], ◌∷◌, ◌++◌, map, length, refl, sym, subst, ap, ap₂, arith, inl, inr, true≢false}
+use Rattle.std.proofs.Common.{◌≡◌, ◌∙◌, ℕ, zero, suc, ◌+◌, ◌<◌, ◌≤◌, Bool, true, false, cond, ◌||◌}
+use Rattle.std.proofs.Common.{List, [], ◌∷◌, ◌++◌, map, length, refl, sym, subst, ap, ap₂, arith}
+use Rattle.std.proofs.Common.{inl, inr, true≢false}
 use Rattle.std.specs.Prelude.{◌⊎◌, ⊤, filter}
-use Rattle.pg_poly.proofs.Common.{AllPairs, Contains, list_any, remove, IsPermutation, IsStrictlyIncreasing, cases_Bool, cases_eq, or_cases, Contains-append_cases, Contains-append_left, Contains-append_right, Contains-get_or, AllPairs-cons, AllPairs-from_increasing, IsPermutation-cons, IsPermutation-refl, IsPermutation-remove, IsPermutation-sym, IsPermutation-trans, Contains-permutation, length_permutation}
+use Rattle.pg_poly.proofs.Common.{AllPairs, Contains, list_any, remove, IsPermutation}
+use Rattle.pg_poly.proofs.Common.{IsStrictlyIncreasing, cases_Bool, cases_eq, or_cases}
+use Rattle.pg_poly.proofs.Common.{Contains-append_cases, Contains-append_left}
+use Rattle.pg_poly.proofs.Common.{Contains-append_right, Contains-get_or, AllPairs-cons}
+use Rattle.pg_poly.proofs.Common.{AllPairs-from_increasing, IsPermutation-cons, IsPermutation-refl}
+use Rattle.pg_poly.proofs.Common.{IsPermutation-remove, IsPermutation-sym, IsPermutation-trans}
+use Rattle.pg_poly.proofs.Common.{Contains-permutation, length_permutation}
 use Rattle.pg_poly.specs.Placements.{IsBefore}
 use Rattle.pg_poly.specs.Listed.{lists_from}
 

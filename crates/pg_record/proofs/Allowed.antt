@@ -1,7 +1,9 @@
 -- The events that are read are those of a session.
-use Rattle.std.proofs.Common.{◌≡◌, ℕ, ◌+◌, ◌<◌, Bool, true, false, inl, inr, List, [], ◌∷◌, ◌++◌, length, refl, ap, subst, Result, Ok, Err, arith}
+use Rattle.std.proofs.Common.{◌≡◌, ℕ, ◌+◌, ◌<◌, Bool, true, false, inl, inr, List, [], ◌∷◌, ◌++◌}
+use Rattle.std.proofs.Common.{length, refl, ap, subst, Result, Ok, Err, arith}
 use Rattle.std.specs.Prelude.{◌==◌, nat_lt, is_err, is_ok, codes}
-use Rattle.pg_record.proofs.Common.{bytes_eq, nat_tests, and_then, go_on, least, reading, unless, Bytes, lines, Game, Position, Illegal, judged_move}
+use Rattle.pg_record.proofs.Common.{bytes_eq, nat_tests, and_then, go_on, least, reading, unless}
+use Rattle.pg_record.proofs.Common.{Bytes, lines, Game, Position, Illegal, judged_move}
 use Rattle.pg_record.specs.declared.event.Event.{Event}
 use Rattle.pg_record.specs.declared.event.Event.TheVariants.{Play, Back}
 use Rattle.pg_record.specs.Replay.{position_after, standing, IsRecord}

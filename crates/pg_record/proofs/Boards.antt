@@ -1,6 +1,8 @@
 -- Boards on which moves were played.
-use Rattle.std.proofs.Common.{◌≡◌, ◌≢◌, ◌∙◌, ℕ, ◌-◌, ◌<◌, List, [], ◌∷◌, ◌++◌, length, map, take, refl, sym, ap, subst, arith, Result, Ok, Err, OnOk}
-use Rattle.pg_record.proofs.Common.{length_push, length-map, map-append, Switching, Game, Position, Illegal, after, start, Stand, View}
+use Rattle.std.proofs.Common.{◌≡◌, ◌≢◌, ◌∙◌, ℕ, ◌-◌, ◌<◌, List, [], ◌∷◌, ◌++◌, length, map, take}
+use Rattle.std.proofs.Common.{refl, sym, ap, subst, arith, Result, Ok, Err, OnOk}
+use Rattle.pg_record.proofs.Common.{length_push, length-map, map-append, Switching, Game, Position}
+use Rattle.pg_record.proofs.Common.{Illegal, after, start, Stand, View}
 use Rattle.pg_record.specs.Replay.{position_after, positions_along}
 use Rattle.pg_record.specs.Session.{positions_of, IsBoardAfter}
 use Rattle.pg_record.proofs.Along.{along-more, along-last, length-along}

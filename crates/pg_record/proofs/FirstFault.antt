@@ -1,11 +1,15 @@
 -- The fault that is told is the first.
-use Rattle.std.proofs.Common.{◌≡◌, ◌∙◌, ℕ, Bool, true, false, cond, ◌⊎◌, inl, inr, List, [], ◌∷◌, ◌++◌, length, refl, sym, ap, Option, Some, None, Result, Ok, Err, arith}
+use Rattle.std.proofs.Common.{◌≡◌, ◌∙◌, ℕ, Bool, true, false, cond, ◌⊎◌, inl, inr, List, [], ◌∷◌}
+use Rattle.std.proofs.Common.{◌++◌, length, refl, sym, ap, Option, Some, None, Result, Ok, Err}
+use Rattle.std.proofs.Common.{arith}
 use Rattle.std.specs.Prelude.{nat_lt, not, is_none, codes}
-use Rattle.pg_record.proofs.Common.{bytes_eq, ltb-true, false≢true, and_then, least, reading, Bytes, lines, number, parts, first_fault, is_least, unless_err, Game}
+use Rattle.pg_record.proofs.Common.{bytes_eq, ltb-true, false≢true, and_then, least, reading, Bytes}
+use Rattle.pg_record.proofs.Common.{lines, number, parts, first_fault, is_least, unless_err, Game}
 use Rattle.std.proofs.lemmas.Slice.Eq.{bytes_eq-Decides}
 use Rattle.pg_record.specs.declared.event.Event.{Event}
 use Rattle.pg_record.specs.declared.event.Event.TheVariants.{Play, Back}
-use Rattle.pg_record.specs.RecordFile.{move_of, event_from, event_of, event_faults, is_full, with_one, after, said, record_of}
+use Rattle.pg_record.specs.RecordFile.{move_of, event_from, event_of, event_faults, is_full}
+use Rattle.pg_record.specs.RecordFile.{with_one, after, said, record_of}
 use Rattle.pg_record.specs.Faults.{is_refused, line_faults, IsFirstFault}
 use Rattle.pg_record.specs.declared.fault.Fault.{Fault}
 use Rattle.pg_record.specs.declared.fault.Fault.TheVariants as faults

@@ -1,7 +1,10 @@
 -- The lines of a printed record, and how long they are.
-use Rattle.std.proofs.Common.{◌≡◌, ◌∙◌, ◌+◌, ◌*◌, ◌<◌, ◌≤◌, lit<, List, [], ◌∷◌, ◌++◌, length, map, refl, ap, append_assoc, arith}
+use Rattle.std.proofs.Common.{◌≡◌, ◌∙◌, ◌+◌, ◌*◌, ◌<◌, ◌≤◌, lit<, List, [], ◌∷◌, ◌++◌, length, map}
+use Rattle.std.proofs.Common.{refl, ap, append_assoc, arith}
 use Rattle.std.specs.Prelude.{codes}
-use Rattle.pg_record.proofs.Common.{decimal, flat_map, AllByRecursion, length-append, Bytes, lines, spaced, spelled, IsWord, decimal_is_word, spaced_quiet, quiet_lacks_feed}
+use Rattle.pg_record.proofs.Common.{decimal, flat_map, AllByRecursion, length-append, Bytes, lines}
+use Rattle.pg_record.proofs.Common.{spaced, spelled, IsWord, decimal_is_word, spaced_quiet}
+use Rattle.pg_record.proofs.Common.{quiet_lacks_feed}
 use Rattle.std.proofs.lemmas.Fmt.{length-decimal-le}
 use Rattle.pg_text.proofs.FirstLine.{lines_feed, no_lines}
 use Rattle.pg_record.specs.declared.event.Event.{Event}

@@ -1,16 +1,23 @@
 -- A printed record is read again as the same events.
-use Rattle.std.proofs.Common.{◌≡◌, ◌∙◌, ℕ, ◌+◌, ◌<◌, ◌≤◌, Bool, true, false, cond, List, [], ◌∷◌, ◌++◌, length, map, refl, sym, ap, subst, append_assoc, arith, Result, Ok, Err}
+use Rattle.std.proofs.Common.{◌≡◌, ◌∙◌, ℕ, ◌+◌, ◌<◌, ◌≤◌, Bool, true, false, cond, List, [], ◌∷◌}
+use Rattle.std.proofs.Common.{◌++◌, length, map, refl, sym, ap, subst, append_assoc, arith, Result}
+use Rattle.std.proofs.Common.{Ok, Err}
 use Rattle.std.specs.Prelude.{nat_lt, is_ok, is_err, codes}
-use Rattle.pg_record.proofs.Common.{decimal, AllByRecursion, ltb-true, nat_tests, append-nil, length_push, reading, words_spaced, reads_on, is_over, Game, Position, Illegal, Range, point_count, judged_move, point_count-le}
+use Rattle.pg_record.proofs.Common.{decimal, AllByRecursion, ltb-true, nat_tests, append-nil}
+use Rattle.pg_record.proofs.Common.{length_push, reading, words_spaced, reads_on, is_over, Game}
+use Rattle.pg_record.proofs.Common.{Position, Illegal, Range, point_count, judged_move}
+use Rattle.pg_record.proofs.Common.{point_count-le}
 use Rattle.pg_text.proofs.Decimals.{number_decimal}
 use Rattle.pg_record.specs.declared.event.Event.{Event}
 use Rattle.pg_record.specs.declared.event.Event.TheVariants.{Play, Back}
 use Rattle.pg_record.specs.Print.{printed_record}
-use Rattle.pg_record.specs.Replay.{position_after, with_event, standing, MayFollow, AreAllowed, IsRecord}
+use Rattle.pg_record.specs.Replay.{position_after, with_event, standing, MayFollow, AreAllowed}
+use Rattle.pg_record.specs.Replay.{IsRecord}
 use Rattle.pg_record.proofs.Standing.{standing-more}
 use Rattle.pg_record.specs.RecordFile.{event_of, event_from, with_one, after, record_of}
 use Rattle.pg_record.proofs.Adding.{move-added, back-added}
-use Rattle.pg_record.proofs.PrintedLines.{IsNear, event_are_words, event_text, record_cut, record_length}
+use Rattle.pg_record.proofs.PrintedLines.{IsNear, event_are_words, event_text, record_cut}
+use Rattle.pg_record.proofs.PrintedLines.{record_length}
 
 -- ---- the points of moves
 

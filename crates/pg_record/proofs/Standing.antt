@@ -1,12 +1,17 @@
 -- Events one by one: what stands, and that it is a legal play.
-use Rattle.std.proofs.Common.{◌≡◌, ◌∙◌, ℕ, zero, suc, ◌+◌, ◌-◌, ◌<◌, ◌≤◌, Bool, true, false, cond, List, [], ◌∷◌, ◌++◌, length, take, get_or, refl, ap, arith, Ok, Err, is_ok}
+use Rattle.std.proofs.Common.{◌≡◌, ◌∙◌, ℕ, zero, suc, ◌+◌, ◌-◌, ◌<◌, ◌≤◌, Bool, true, false, cond}
+use Rattle.std.proofs.Common.{List, [], ◌∷◌, ◌++◌, length, take, get_or, refl, ap, arith, Ok, Err}
+use Rattle.std.proofs.Common.{is_ok}
 use Rattle.std.specs.Prelude.{nat_lt}
-use Rattle.pg_record.proofs.Common.{ltb-true, length_push, length-take-le, take_at, Game, Position, Range, Taken, Over, point_count, after, start, IsPosition, IsLegalPlay, played, IsPosition-start, IsPosition-played}
+use Rattle.pg_record.proofs.Common.{ltb-true, length_push, length-take-le, take_at, Game, Position}
+use Rattle.pg_record.proofs.Common.{Range, Taken, Over, point_count, after, start, IsPosition}
+use Rattle.pg_record.proofs.Common.{IsLegalPlay, played, IsPosition-start, IsPosition-played}
 use Rattle.pg_game.specs.Position.{is_free}
 use Rattle.pg_game.specs.Game.{is_over}
 use Rattle.pg_record.specs.declared.event.Event.{Event}
 use Rattle.pg_record.specs.declared.event.Event.TheVariants.{Play, Back}
-use Rattle.pg_record.specs.Replay.{with_event, standing_after, standing, position_after, MayFollow, AreAllowed, IsRecord}
+use Rattle.pg_record.specs.Replay.{with_event, standing_after, standing, position_after, MayFollow}
+use Rattle.pg_record.specs.Replay.{AreAllowed, IsRecord}
 
 -- ---- one event more
 

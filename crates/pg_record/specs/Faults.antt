@@ -1,6 +1,8 @@
 -- What the first fault of a record file is, in words of its lines.
-use Rattle.std.specs.Prelude.{◌≡◌, ℕ, ◌+◌, ◌<◌, ◌==◌, ◌⊎◌, Bool, true, false, not, is_err, is_none, List, [], ◌∷◌, ◌++◌, length, Option, Some, None, Ok, codes}
-use Rattle.pg_record.specs.Prelude.{bytes_eq, SPACE, IsLeast, reading, Bytes, lines, number, parts, Game, judged_move}
+use Rattle.std.specs.Prelude.{◌≡◌, ℕ, ◌+◌, ◌<◌, ◌==◌, ◌⊎◌, Bool, true, false, not, is_err, is_none}
+use Rattle.std.specs.Prelude.{List, [], ◌∷◌, ◌++◌, length, Option, Some, None, Ok, codes}
+use Rattle.pg_record.specs.Prelude.{bytes_eq, SPACE, IsLeast, reading, Bytes, lines, number, parts}
+use Rattle.pg_record.specs.Prelude.{Game, judged_move}
 use Rattle.pg_record.specs.declared.event.Event.{Event}
 use Rattle.pg_record.specs.Replay.{replay}
 use Rattle.pg_record.specs.RecordFile.{after, is_full}

@@ -1,6 +1,8 @@
 -- Record files: what each line says, and the first fault.
-use Rattle.std.specs.Prelude.{ℕ, ◌==◌, Bool, nat_lt, nat_le, is_err, if◌then◌else◌, List, [], ◌∷◌, ◌++◌, length, Option, Some, None, Result, Ok, Err, codes}
-use Rattle.pg_record.specs.Prelude.{bytes_eq, SPACE, and_then, least, reading, unless, Bytes, lines, number, parts, Game, judged_move}
+use Rattle.std.specs.Prelude.{ℕ, ◌==◌, Bool, nat_lt, nat_le, is_err, if◌then◌else◌, List, [], ◌∷◌}
+use Rattle.std.specs.Prelude.{◌++◌, length, Option, Some, None, Result, Ok, Err, codes}
+use Rattle.pg_record.specs.Prelude.{bytes_eq, SPACE, and_then, least, reading, unless, Bytes, lines}
+use Rattle.pg_record.specs.Prelude.{number, parts, Game, judged_move}
 use Rattle.pg_record.specs.declared.event.Event.{Event}
 use Rattle.pg_record.specs.declared.event.Event.TheVariants.{Play, Back}
 use Rattle.pg_record.specs.declared.event.TheConstants.{MAX_EVENTS}

@@ -1,6 +1,7 @@
 -- What a session is seen as, and what it keeps.
 use Rattle.std.specs.Prelude.{◌≡◌, ◌≢◌, ℕ, ◌≤◌, List, [], ◌∷◌, ◌++◌, map, Result, Ok, Err}
-use Rattle.pg_record.specs.Prelude.{Switching, Game, Position, Illegal, start, IsMadeForGame, Stand, View}
+use Rattle.pg_record.specs.Prelude.{Switching, Game, Position, Illegal, start, IsMadeForGame, Stand}
+use Rattle.pg_record.specs.Prelude.{View}
 use Rattle.pg_record.specs.declared.event.Event.{Event}
 use Rattle.pg_record.specs.declared.event.TheConstants.{MAX_EVENTS}
 use Rattle.pg_record.specs.declared.table.Table.{Table}

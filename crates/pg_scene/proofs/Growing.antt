@@ -1,6 +1,9 @@
 -- Lists of items that grow at their ends.
-use Rattle.std.proofs.Common.{◌≡◌, ℕ, zero, suc, ◌+◌, ◌<◌, Bool, true, false, List, [], ◌∷◌, ◌++◌, length, map, filter, get_or, take, add-one, refl, sym, ap, ◌∙◌, inl, inr, arith, append_assoc}
-use Rattle.pg_scene.proofs.Common.{range_with_len, cases_Bool, append-nil, length-take-le, map-append, take_more}
+use Rattle.std.proofs.Common.{◌≡◌, ℕ, zero, suc, ◌+◌, ◌<◌, Bool, true, false, List, [], ◌∷◌, ◌++◌}
+use Rattle.std.proofs.Common.{length, map, filter, get_or, take, add-one, refl, sym, ap, ◌∙◌, inl}
+use Rattle.std.proofs.Common.{inr, arith, append_assoc}
+use Rattle.pg_scene.proofs.Common.{range_with_len, cases_Bool, append-nil, length-take-le}
+use Rattle.pg_scene.proofs.Common.{map-append, take_more}
 use Rattle.pg_scene.specs.Items.{numbered}
 use Rattle.pg_scene.specs.declared.item.Item.{Item}
 

@@ -1,6 +1,11 @@
 -- The lightest lines, and the base of weights.
-use Rattle.std.proofs.Common.{◌≡◌, ℕ, ◌+◌, ◌^◌, ◌<◌, ◌≤◌, max, true, false, List, length, get_or, drop, refl, sym, ap, subst, arith}
-use Rattle.pg_scene.proofs.Common.{at_drop_more, FinSet, count_by, nat_cmp, Kind, MakerBreaker, MakerMaker, AvoiderEnforcer, Switching, is_touched, lines_of, is_free, IsBaseOf, full_weight, greatest_length, Game, Position, IsBaseOf-bias, IsBaseOf-two, length-le-greatest, pow-le-pow_right}
+use Rattle.std.proofs.Common.{◌≡◌, ℕ, ◌+◌, ◌^◌, ◌<◌, ◌≤◌, max, true, false, List, length, get_or}
+use Rattle.std.proofs.Common.{drop, refl, sym, ap, subst, arith}
+use Rattle.pg_scene.proofs.Common.{at_drop_more, FinSet, count_by, nat_cmp, Kind, MakerBreaker}
+use Rattle.pg_scene.proofs.Common.{MakerMaker, AvoiderEnforcer, Switching, is_touched, lines_of}
+use Rattle.pg_scene.proofs.Common.{is_free, IsBaseOf, full_weight, greatest_length, Game, Position}
+use Rattle.pg_scene.proofs.Common.{IsBaseOf-bias, IsBaseOf-two, length-le-greatest}
+use Rattle.pg_scene.proofs.Common.{pow-le-pow_right}
 use Rattle.pg_scene.specs.Items.{base_of, free_on, most_free}
 
 pub free_on-touched : (own : FinSet nat_cmp) (p : Position) (line : List ℕ)

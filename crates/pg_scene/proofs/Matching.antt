@@ -1,5 +1,6 @@
 -- Lists that agree place by place.
-use Rattle.std.proofs.Common.{◌≡◌, ℕ, Bool, true, ◌&&◌, List, [], ◌∷◌, refl, sym, ap₂, arith, true≢false}
+use Rattle.std.proofs.Common.{◌≡◌, ℕ, Bool, true, ◌&&◌, List, [], ◌∷◌, refl, sym, ap₂, arith}
+use Rattle.std.proofs.Common.{true≢false}
 use Rattle.std.specs.Prelude.{nat_eq}
 use Rattle.pg_scene.proofs.Common.{nat_tests, and_parts}
 use lib.Pointwise.{pointwise}

@@ -1,11 +1,19 @@
 -- What is read off the items of a scene.
-use Rattle.std.proofs.Common.{◌≡◌, ℕ, suc, ◌<◌, ◌≤◌, Bool, true, false, ◌&&◌, List, [], ◌∷◌, ◌++◌, length, map, take, Option, Some, None, refl, sym, ap, ap₂, ◌∙◌, subst, inl, inr, arith}
+use Rattle.std.proofs.Common.{◌≡◌, ℕ, suc, ◌<◌, ◌≤◌, Bool, true, false, ◌&&◌, List, [], ◌∷◌, ◌++◌}
+use Rattle.std.proofs.Common.{length, map, take, Option, Some, None, refl, sym, ap, ap₂, ◌∙◌, subst}
+use Rattle.std.proofs.Common.{inl, inr, arith}
 use Rattle.std.specs.Prelude.{nat_lt}
-use Rattle.pg_scene.proofs.Common.{FinSet, decimal, All, flat_map, range_with_len, nat_cmp, cases_Bool, nat_tests, append-nil, flat_map-append, flat_map-cons, points_below, Pair, Side, position_of, Claim, Body, Node, Reply, is_graph, free_points, lines_of, point_count, start, Game, Position}
+use Rattle.pg_scene.proofs.Common.{FinSet, decimal, All, flat_map, range_with_len, nat_cmp}
+use Rattle.pg_scene.proofs.Common.{cases_Bool, nat_tests, append-nil, flat_map-append}
+use Rattle.pg_scene.proofs.Common.{flat_map-cons, points_below, Pair, Side, position_of, Claim}
+use Rattle.pg_scene.proofs.Common.{Body, Node, Reply, is_graph, free_points, lines_of, point_count}
+use Rattle.pg_scene.proofs.Common.{start, Game, Position}
 use Rattle.std.proofs.lemmas.List.{take_all}
 use Rattle.std.proofs.lemmas.List.Folds.{flat_map-map}
 use Rattle.pg_cert.specs.declared.node.Body.TheVariants as bodies
-use Rattle.pg_scene.specs.Items.{are_drawn, body_items, fault_items, line_items, mark_of, member_items, numbered, pair_item, point_items, reply_item, seen_if, set_items, step_item, units, weight_items}
+use Rattle.pg_scene.specs.Items.{are_drawn, body_items, fault_items, line_items, mark_of}
+use Rattle.pg_scene.specs.Items.{member_items, numbered, pair_item, point_items, reply_item}
+use Rattle.pg_scene.specs.Items.{seen_if, set_items, step_item, units, weight_items}
 use Rattle.pg_scene.specs.Read.{first_in, pair_in, point_in, reply_in, second_in}
 use Rattle.pg_scene.specs.Scenes.{IsSceneOf, IsSceneOfGame}
 use Rattle.pg_scene.specs.declared.item.Item.{Item}

@@ -1,6 +1,11 @@
 -- Weights in units.
-use Rattle.std.proofs.Common.{◌≡◌, ℕ, zero, suc, ◌+◌, ◌-◌, ◌*◌, ◌/◌, ◌^◌, ◌<◌, ◌≤◌, Bool, true, false, if◌then◌else◌, List, [], ◌∷◌, length, get_or, sym, ap, ap₂, ◌∙◌, inl, inr, arith}
-use Rattle.pg_scene.proofs.Common.{mul-div_cancel_left, one-le-pow, cases_Bool, FinSet, count_by, sum_by, nat_cmp, is_touched, lines_of, is_free, greatest_length, is_on, line_weight, point_weight, Game, Position, line_weight-clear, line_weight-touched}
+use Rattle.std.proofs.Common.{◌≡◌, ℕ, zero, suc, ◌+◌, ◌-◌, ◌*◌, ◌/◌, ◌^◌, ◌<◌, ◌≤◌, Bool, true}
+use Rattle.std.proofs.Common.{false, if◌then◌else◌, List, [], ◌∷◌, length, get_or, sym, ap, ap₂}
+use Rattle.std.proofs.Common.{◌∙◌, inl, inr, arith}
+use Rattle.pg_scene.proofs.Common.{mul-div_cancel_left, one-le-pow, cases_Bool, FinSet, count_by}
+use Rattle.pg_scene.proofs.Common.{sum_by, nat_cmp, is_touched, lines_of, is_free, greatest_length}
+use Rattle.pg_scene.proofs.Common.{is_on, line_weight, point_weight, Game, Position}
+use Rattle.pg_scene.proofs.Common.{line_weight-clear, line_weight-touched}
 use Rattle.std.proofs.lemmas.List.Sums.{count_by-le-length, sum_by-cons}
 use Rattle.std.proofs.lemmas.Nat.{pow-add}
 use Rattle.pg_scene.proofs.Lightest.{free_on-clear, free_on-touched}

@@ -1,12 +1,15 @@
 -- Each item of a connectivity game's scene can stand on its board.
-use Rattle.std.proofs.Common.{◌≡◌, ℕ, ◌<◌, ◌≤◌, [], ◌∷◌, ◌++◌, length, Option, Some, None, sym, ap, subst, arith}
+use Rattle.std.proofs.Common.{◌≡◌, ℕ, ◌<◌, ◌≤◌, [], ◌∷◌, ◌++◌, length, Option, Some, None, sym, ap}
+use Rattle.std.proofs.Common.{subst, arith}
 use Rattle.std.specs.Prelude.{nat_lt}
-use Rattle.pg_scene.proofs.Common.{All, All-append, All-nil, edge_count, marks_at, SpanBody, Trees, Parts, SpanClaim, SpanGame}
+use Rattle.pg_scene.proofs.Common.{All, All-append, All-nil, edge_count, marks_at, SpanBody, Trees}
+use Rattle.pg_scene.proofs.Common.{Parts, SpanClaim, SpanGame}
 use Rattle.pg_span.specs.Fits.{AreSpanParts}
 use Rattle.pg_scene.specs.Items.{fault_items, member_items, point_items}
 use Rattle.pg_scene.specs.Limits.{IsBoard, IsItemOn, IsScene, points_on, vertices_on}
 use Rattle.pg_scene.specs.Scenes.{IsDrawnGraph}
-use Rattle.pg_scene.specs.SpanScenes.{IsSceneOfSpan, IsSceneOfSpanGame, first_items, part_item, span_items, span_legend, span_line}
+use Rattle.pg_scene.specs.SpanScenes.{IsSceneOfSpan, IsSceneOfSpanGame, first_items, part_item}
+use Rattle.pg_scene.specs.SpanScenes.{span_items, span_legend, span_line}
 use Rattle.pg_scene.specs.declared.board.Board.{Board}
 use Rattle.pg_scene.specs.declared.item.Item.TheVariants.{Step, Part}
 use Rattle.pg_scene.specs.declared.item.Set.TheVariants.{First, Second}

@@ -1,14 +1,24 @@
 -- Each item of a scene can stand on its board.
-use Rattle.std.proofs.Common.{◌≡◌, ℕ, zero, suc, ◌+◌, ◌*◌, ◌<◌, ◌≤◌, Bool, true, false, ◌&&◌, List, [], ◌∷◌, ◌++◌, length, take, get_or, Option, Some, None, refl, sym, ap, ◌∙◌, inl, inr, subst, true≢false, arith}
+use Rattle.std.proofs.Common.{◌≡◌, ℕ, zero, suc, ◌+◌, ◌*◌, ◌<◌, ◌≤◌, Bool, true, false, ◌&&◌, List}
+use Rattle.std.proofs.Common.{[], ◌∷◌, ◌++◌, length, take, get_or, Option, Some, None, refl, sym}
+use Rattle.std.proofs.Common.{ap, ◌∙◌, inl, inr, subst, true≢false, arith}
 use Rattle.std.specs.Prelude.{nat_lt, ◌==◌}
-use Rattle.pg_scene.proofs.Common.{FinSet, decimal, All, AllByRecursion, flat_map, range_with_len, nat_cmp, and_parts, cases_Bool, nat_tests, length-append, flat_map-cons, All-append, All-map, All-nil, Contains-get_or, points_below, Kind, Pair, Side, position_of, Claim, Node, Body, Reply, field_points, AreLinesOf, FieldFits, IsFit, IsLineOf, is_graph, longest, free_points, lines_of, point_count, start, Field, Lines, Game, Position, line-fit}
+use Rattle.pg_scene.proofs.Common.{FinSet, decimal, All, AllByRecursion, flat_map, range_with_len}
+use Rattle.pg_scene.proofs.Common.{nat_cmp, and_parts, cases_Bool, nat_tests, length-append}
+use Rattle.pg_scene.proofs.Common.{flat_map-cons, All-append, All-map, All-nil, Contains-get_or}
+use Rattle.pg_scene.proofs.Common.{points_below, Kind, Pair, Side, position_of, Claim, Node, Body}
+use Rattle.pg_scene.proofs.Common.{Reply, field_points, AreLinesOf, FieldFits, IsFit, IsLineOf}
+use Rattle.pg_scene.proofs.Common.{is_graph, longest, free_points, lines_of, point_count, start}
+use Rattle.pg_scene.proofs.Common.{Field, Lines, Game, Position, line-fit}
 use Rattle.std.proofs.lemmas.List.FromFn.{get_or-range_with_len, length-range_with_len}
 use Rattle.pg_base.specs.declared.grid.Grid.{Grid as Cells}
 use Rattle.pg_base.proofs.MemberLemmas.{points_below-small}
 use Rattle.pg_cert.specs.declared.node.Body.TheVariants as bodies
 use Rattle.pg_game.specs.declared.field.Field.TheVariants.{Graph as OnGraph}
 use Rattle.pg_game.proofs.Greatest.{member-within}
-use Rattle.pg_scene.specs.Items.{are_drawn, body_items, fault_items, line_items, mark_of, member_items, numbered, pair_item, point_items, reply_item, seen_if, set_items, step_item, units, weight_items}
+use Rattle.pg_scene.specs.Items.{are_drawn, body_items, fault_items, line_items, mark_of}
+use Rattle.pg_scene.specs.Items.{member_items, numbered, pair_item, point_items, reply_item}
+use Rattle.pg_scene.specs.Items.{seen_if, set_items, step_item, units, weight_items}
 use Rattle.pg_scene.specs.Limits.{IsBoard, IsItemOn, IsScene, points_on, terminals_on}
 use Rattle.pg_scene.specs.Scenes.{IsBoardOf, IsSceneOf, IsSceneOfGame, line_board}
 use Rattle.pg_scene.specs.Words.{body_line, game_legend, node_legend}

@@ -1,6 +1,12 @@
 -- What is to be seen on a board, of a position, of lines, and of the bodies of nodes.
-use Rattle.std.specs.Prelude.{ℕ, suc, ◌+◌, ◌-◌, ◌^◌, max, nat_lt, nat_le, Bool, true, false, ◌&&◌, List, [], ◌∷◌, ◌++◌, length, map, take, Option, Some, None, if◌then◌else◌}
-use Rattle.pg_scene.specs.Prelude.{FinSet, contains, decimal, count_by, flat_map, range_with_len, sum_by, nat_cmp, points_below, Kind, AvoiderEnforcer, Pair, Side, Body, Reply, is_graph, free_points, is_touched, lines_of, point_count, is_free, points_of, greatest_length, is_on, line_weight, Game, Position}
+use Rattle.std.specs.Prelude.{ℕ, suc, ◌+◌, ◌-◌, ◌^◌, max, nat_lt, nat_le, Bool, true, false, ◌&&◌}
+use Rattle.std.specs.Prelude.{List, [], ◌∷◌, ◌++◌, length, map, take, Option, Some, None}
+use Rattle.std.specs.Prelude.{if◌then◌else◌}
+use Rattle.pg_scene.specs.Prelude.{FinSet, contains, decimal, count_by, flat_map, range_with_len}
+use Rattle.pg_scene.specs.Prelude.{sum_by, nat_cmp, points_below, Kind, AvoiderEnforcer, Pair, Side}
+use Rattle.pg_scene.specs.Prelude.{Body, Reply, is_graph, free_points, is_touched, lines_of}
+use Rattle.pg_scene.specs.Prelude.{point_count, is_free, points_of, greatest_length, is_on}
+use Rattle.pg_scene.specs.Prelude.{line_weight, Game, Position}
 use Rattle.pg_base.specs.declared.side.Side.TheVariants.{X, Y}
 use Rattle.pg_cert.specs.declared.node.Body.TheVariants as bodies
 use Rattle.pg_scene.specs.declared.item.Item.{Item}

@@ -1,6 +1,7 @@
 -- What a picture is laid out from: a board within the limits of games, and items whose points and
 -- vertices are the board's.
-use Rattle.std.specs.Prelude.{◌≡◌, ℕ, ◌+◌, ◌*◌, ◌-◌, ◌<◌, ◌≤◌, true, List, [], ◌∷◌, length, Option, IfSome}
+use Rattle.std.specs.Prelude.{◌≡◌, ℕ, ◌+◌, ◌*◌, ◌-◌, ◌<◌, ◌≤◌, true, List, [], ◌∷◌, length, Option}
+use Rattle.std.specs.Prelude.{IfSome}
 use Rattle.pg_scene.specs.Prelude.{All, MAX_EDGES}
 use Rattle.pg_game.specs.declared.bounds.TheConstants.{MAX_POINTS, MAX_LINE_POINTS, MAX_VERTICES}
 use Rattle.pg_gen.specs.Bridge.{bridge_ends, has_bridge}
@@ -8,7 +9,8 @@ use Rattle.pg_graph.specs.declared.graph.Graph.{Graph as Multigraph}
 use Rattle.pg_scene.specs.declared.board.Board.{Board}
 use Rattle.pg_scene.specs.declared.board.Board.TheVariants.{Grid, Ring, Graph}
 use Rattle.pg_scene.specs.declared.item.Item.{Item}
-use Rattle.pg_scene.specs.declared.item.Item.TheVariants.{Point, Line, Pair, Weight, Member, Extra, Step, Move, Reply, Part, Fault}
+use Rattle.pg_scene.specs.declared.item.Item.TheVariants.{Point, Line, Pair, Weight, Member, Extra}
+use Rattle.pg_scene.specs.declared.item.Item.TheVariants.{Step, Move, Reply, Part, Fault}
 use Rattle.pg_scene.specs.declared.scene.Scene.{Scene}
 use Rattle.pg_scene.specs.declared.lines.TheConstants.{MAX_LEGEND_LINES}
 

@@ -3,7 +3,8 @@ unfoldable pub use Rattle.pg_base.specs.Points.{points_below}
 pub use Rattle.pg_base.specs.Side.{side_word}
 pub use Rattle.pg_base.specs.Texts.{count_text}
 pub use Rattle.pg_base.specs.declared.kind.Kind.{Kind}
-pub use Rattle.pg_base.specs.declared.kind.Kind.TheVariants.{AvoiderEnforcer, MakerBreaker, MakerMaker, Switching}
+pub use Rattle.pg_base.specs.declared.kind.Kind.TheVariants.{AvoiderEnforcer, MakerBreaker}
+pub use Rattle.pg_base.specs.declared.kind.Kind.TheVariants.{MakerMaker, Switching}
 pub use Rattle.pg_base.specs.declared.limits.TheConstants.{MAX_EDGES, MAX_MEMBERS}
 pub use Rattle.pg_base.specs.declared.pair.Pair.{Pair}
 pub use Rattle.pg_base.specs.declared.side.Side.{Side}
@@ -32,5 +33,6 @@ pub use Rattle.pg_span.specs.declared.game.SpanGame.{SpanGame}
 pub use Rattle.std.specs.FinSet.{FinSet, contains}
 pub use Rattle.std.specs.Fmt.{decimal}
 pub use Rattle.std.specs.Global.{Vec}
-pub use Rattle.std.specs.List.{All, AllByRecursion, count_by, filter, flat_map, list_any, range_with_len, sum_by}
+pub use Rattle.std.specs.List.{All, AllByRecursion, count_by, filter, flat_map, list_any}
+pub use Rattle.std.specs.List.{range_with_len, sum_by}
 pub use Rattle.std.specs.Ordering.{nat_cmp}

@@ -1,6 +1,8 @@
 -- What is to be seen of a game, and of a node of a certificate.
-use Rattle.std.specs.Prelude.{◌≡◌, ℕ, List, [], ◌∷◌, ◌++◌, Option, Some, None, IfSome, IfNone, slice_get}
-use Rattle.pg_scene.specs.Prelude.{position_of, Claim, Node, lines_of, point_count, start, Field, Lines, Game}
+use Rattle.std.specs.Prelude.{◌≡◌, ℕ, List, [], ◌∷◌, ◌++◌, Option, Some, None, IfSome, IfNone}
+use Rattle.std.specs.Prelude.{slice_get}
+use Rattle.pg_scene.specs.Prelude.{position_of, Claim, Node, lines_of, point_count, start, Field}
+use Rattle.pg_scene.specs.Prelude.{Lines, Game}
 use Rattle.pg_cert.specs.declared.cert.Cert.{Cert}
 use Rattle.pg_game.specs.declared.field.Field.TheVariants.{Graph as OnGraph}
 use Rattle.pg_base.specs.declared.grid.Grid.{Grid as Cells}

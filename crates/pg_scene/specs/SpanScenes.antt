@@ -1,6 +1,8 @@
 -- What is to be seen of a connectivity game, and of a claim of its certificate.
-use Rattle.std.specs.Prelude.{◌≡◌, ℕ, nat_lt, List, [], ◌∷◌, ◌++◌, length, codes, Option, Some, None, slice_get}
-use Rattle.pg_scene.specs.Prelude.{side_word, Position, edge_count, marks_at, SpanBody, Trees, Parts, SpanClaim, SpanGame, count_text}
+use Rattle.std.specs.Prelude.{◌≡◌, ℕ, nat_lt, List, [], ◌∷◌, ◌++◌, length, codes, Option, Some}
+use Rattle.std.specs.Prelude.{None, slice_get}
+use Rattle.pg_scene.specs.Prelude.{side_word, Position, edge_count, marks_at, SpanBody, Trees}
+use Rattle.pg_scene.specs.Prelude.{Parts, SpanClaim, SpanGame, count_text}
 use Rattle.pg_span.specs.declared.cert.SpanCert.{SpanCert}
 use Rattle.pg_scene.specs.Items.{fault_items, member_items, numbered, point_items, seen_if}
 use Rattle.pg_scene.specs.Scenes.{IsDrawnGraph}

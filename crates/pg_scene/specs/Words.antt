@@ -1,6 +1,8 @@
 -- Titles and legends.
-use Rattle.std.specs.Prelude.{ℕ, ◌++◌, nat_lt, List, [], ◌∷◌, length, codes, Option, Some, None, if◌then◌else◌}
-use Rattle.pg_scene.specs.Prelude.{decimal, side_word, count_text, Kind, Side, Claim, Body, lines_of, Field, Lines, Graph, Game, Position}
+use Rattle.std.specs.Prelude.{ℕ, ◌++◌, nat_lt, List, [], ◌∷◌, length, codes, Option, Some, None}
+use Rattle.std.specs.Prelude.{if◌then◌else◌}
+use Rattle.pg_scene.specs.Prelude.{decimal, side_word, count_text, Kind, Side, Claim, Body}
+use Rattle.pg_scene.specs.Prelude.{lines_of, Field, Lines, Graph, Game, Position}
 use Rattle.pg_base.specs.Goal.{goal_word}
 use Rattle.pg_base.specs.Kind.{kind_word}
 use Rattle.pg_cert.specs.declared.node.Body.TheVariants as bodies

@@ -1,6 +1,8 @@
 -- Parts of a log by rules, put together.
-use Rattle.std.proofs.Common.{◌≡◌, ◌≢◌, ℕ, List, [], ◌∷◌, ◌++◌, Option, Result, Ok, Err, refl, sym, subst}
-use Rattle.pg_sessions.proofs.Common.{Bytes, ConsoleTold, Grows, Consumes, Entry, Said, Stop, Hearing, with_left, MAX_REPLY, Grows-nothing, Grows-then}
+use Rattle.std.proofs.Common.{◌≡◌, ◌≢◌, ℕ, List, [], ◌∷◌, ◌++◌, Option, Result, Ok, Err, refl, sym}
+use Rattle.std.proofs.Common.{subst}
+use Rattle.pg_sessions.proofs.Common.{Bytes, ConsoleTold, Grows, Consumes, Entry, Said, Stop}
+use Rattle.pg_sessions.proofs.Common.{Hearing, with_left, MAX_REPLY, Grows-nothing, Grows-then}
 use Rattle.pg_talk.proofs.Talking.{Hearing-heard, Hearing-nothing, Hearing-said, Hearing-then}
 use Rattle.pg_sessions.specs.Course.{LeadsBy, Course, BreaksOff, Goes}
 

@@ -1,9 +1,15 @@
 -- The losses of moves, one by one.
-use Rattle.std.proofs.Common.{◌≡◌, ◌∙◌, ◌↔◌, ℕ, zero, suc, ◌+◌, ◌<◌, Bool, true, false, List, [], ◌∷◌, ◌++◌, length, take, Some, slice_get, refl, sym, ap, subst, inl, inr, arith, append_assoc, if◌then◌else◌}
-use Rattle.pg_sessions.proofs.Common.{AllPairs, Contains, cases_Bool, false≢true, append-nil, Contains-append_cases, Contains-append_left, Contains-append_right, none-some, after, played, value, Game, Position}
+use Rattle.std.proofs.Common.{◌≡◌, ◌∙◌, ◌↔◌, ℕ, zero, suc, ◌+◌, ◌<◌, Bool, true, false, List, []}
+use Rattle.std.proofs.Common.{◌∷◌, ◌++◌, length, take, Some, slice_get, refl, sym, ap, subst, inl}
+use Rattle.std.proofs.Common.{inr, arith, append_assoc, if◌then◌else◌}
+use Rattle.pg_sessions.proofs.Common.{AllPairs, Contains, cases_Bool, false≢true, append-nil}
+use Rattle.pg_sessions.proofs.Common.{Contains-append_cases, Contains-append_left}
+use Rattle.pg_sessions.proofs.Common.{Contains-append_right, none-some, after, played, value, Game}
+use Rattle.pg_sessions.proofs.Common.{Position}
 use Rattle.lru.proofs.Splits.{Contains-cons, Contains-head, Contains-nil}
 use Rattle.pg_poly.proofs.Lists.{pairs_cons}
-use Rattle.pg_sessions.specs.Losses.{Loss, IsLoss, is_worse, loses_value, loss_at, losses, losses_from}
+use Rattle.pg_sessions.specs.Losses.{Loss, IsLoss, is_worse, loses_value, loss_at, losses}
+use Rattle.pg_sessions.specs.Losses.{losses_from}
 
 -- ---- one member at most
 

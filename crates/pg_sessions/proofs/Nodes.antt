@@ -1,6 +1,9 @@
 -- Nodes of claims with a position.
-use Rattle.std.proofs.Common.{◌≡◌, ◌∙◌, ℕ, zero, suc, ◌+◌, ◌<◌, List, [], ◌∷◌, Some, slice_get, length, map, get_or, refl, sym, ap, subst, inl, inr, arith}
-use Rattle.pg_sessions.proofs.Common.{All, cases_order, none-some, slice_get_within, slice_get-get_or, position_of, Claim, Node, Position, Heading, heading}
+use Rattle.std.proofs.Common.{◌≡◌, ◌∙◌, ℕ, zero, suc, ◌+◌, ◌<◌, List, [], ◌∷◌, Some, slice_get}
+use Rattle.std.proofs.Common.{length, map, get_or, refl, sym, ap, subst, inl, inr, arith}
+use Rattle.pg_sessions.proofs.Common.{All, cases_order, none-some, slice_get_within}
+use Rattle.pg_sessions.proofs.Common.{slice_get-get_or, position_of, Claim, Node, Position, Heading}
+use Rattle.pg_sessions.proofs.Common.{heading}
 
 -- a member that is read with itself as the default
 pub read-at : {A : Type 0} (xs : List A) (k : ℕ) (x : A)

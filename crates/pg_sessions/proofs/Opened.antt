@@ -1,14 +1,23 @@
 -- What names hold, and runs by what was read of them.
-use Rattle.std.proofs.Common.{◌≡◌, ◌∙◌, ℕ, ◌+◌, false, List, [], take, Option, Some, None, Result, Ok, Err, IfErr, refl, sym, ap, subst, inl, inr}
+use Rattle.std.proofs.Common.{◌≡◌, ◌∙◌, ℕ, ◌+◌, false, List, [], take, Option, Some, None, Result}
+use Rattle.std.proofs.Common.{Ok, Err, IfErr, refl, sym, ap, subst, inl, inr}
 use Rattle.std.specs.Prelude.{IfSome, IsErrAnd, nat_lt}
-use Rattle.pg_sessions.proofs.Common.{entry, Game, ConsoleTold, Bytes, Holding, FilesTold, Entry, Read, Write, Memory, OpensGame, game_held, Expanded, Event, record_of, number_of, Fault, cut_same, opens_whole, performs_more, runs_halt, runs_read, Done, End, Finished, Follows, Performs, stop_end, BothCauses, HaltCauses, IsLackingOne, IsReadAs, Opens, held_as, lacking, Runs, Halt, Refused, Stopped, Refusal, LeavesSearch}
+use Rattle.pg_sessions.proofs.Common.{entry, Game, ConsoleTold, Bytes, Holding, FilesTold, Entry}
+use Rattle.pg_sessions.proofs.Common.{Read, Write, Memory, OpensGame, game_held, Expanded, Event}
+use Rattle.pg_sessions.proofs.Common.{record_of, number_of, Fault, cut_same, opens_whole}
+use Rattle.pg_sessions.proofs.Common.{performs_more, runs_halt, runs_read, Done, End, Finished}
+use Rattle.pg_sessions.proofs.Common.{Follows, Performs, stop_end, BothCauses, HaltCauses}
+use Rattle.pg_sessions.proofs.Common.{IsLackingOne, IsReadAs, Opens, held_as, lacking, Runs, Halt}
+use Rattle.pg_sessions.proofs.Common.{Refused, Stopped, Refusal, LeavesSearch}
 use Rattle.pg_io.specs.Causes.{Faults, Rose}
 use Rattle.pg_io.specs.Reading.{IsFile}
 use Rattle.pg_record.specs.declared.fault.Fault.TheVariants.{Size}
 use Rattle.pg_record.specs.declared.fault.TheConstants.{MAX_RECORD_BYTES}
 use Rattle.pg_sessions.proofs.Standing.{leaves-more}
 use Rattle.pg_sessions.specs.Along.{IsOfMoves, IsOfNames}
-use Rattle.pg_sessions.specs.Review.{IsReviewLacking, IsTextHalt, RefusesReview, Reviews, ReviewsMoves, ReviewsRead, ReviewsRecord, StandsAgainst, moves_held, moves_told, record_fault}
+use Rattle.pg_sessions.specs.Review.{IsReviewLacking, IsTextHalt, RefusesReview, Reviews}
+use Rattle.pg_sessions.specs.Review.{ReviewsMoves, ReviewsRead, ReviewsRecord, StandsAgainst}
+use Rattle.pg_sessions.specs.Review.{moves_held, moves_told, record_fault}
 
 -- ---- a record
 

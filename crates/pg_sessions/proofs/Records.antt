@@ -1,12 +1,21 @@
 -- A session and its record, put together.
-use Rattle.std.proofs.Common.{◌≡◌, ◌≢◌, ℕ, List, [], ◌∷◌, ◌++◌, Option, Some, None, Result, Ok, Err, refl, sym, ◌∙◌, ap, subst, inl, inr, IfOk}
+use Rattle.std.proofs.Common.{◌≡◌, ◌≢◌, ℕ, List, [], ◌∷◌, ◌++◌, Option, Some, None, Result, Ok, Err}
+use Rattle.std.proofs.Common.{refl, sym, ◌∙◌, ap, subst, inl, inr, IfOk}
 use Rattle.std.specs.Prelude.{IfErr, IfSome, ⊤}
-use Rattle.pg_sessions.proofs.Common.{ConsoleTold, Bytes, Holding, FilesTold, Entry, Said, Stop, Read, Write, Memory, entry, Game, OpensGame, game_held, Event, Done, End, Finished, Failed, Starved, Changes, Does, Follows, Stops, stop_end, talk, IsWriteHalt, QuietsBy, Runs, Delivers, IsCutShort, delivered, Halt, Refused, Stopped, not_opened, opened, kept, runs_halt, Grows-then, recorded_text, Refusal, DONE, OUT_OF_REPLIES}
+use Rattle.pg_sessions.proofs.Common.{ConsoleTold, Bytes, Holding, FilesTold, Entry, Said, Stop}
+use Rattle.pg_sessions.proofs.Common.{Read, Write, Memory, entry, Game, OpensGame, game_held, Event}
+use Rattle.pg_sessions.proofs.Common.{Done, End, Finished, Failed, Starved, Changes, Does, Follows}
+use Rattle.pg_sessions.proofs.Common.{Stops, stop_end, talk, IsWriteHalt, QuietsBy, Runs, Delivers}
+use Rattle.pg_sessions.proofs.Common.{IsCutShort, delivered, Halt, Refused, Stopped, not_opened}
+use Rattle.pg_sessions.proofs.Common.{opened, kept, runs_halt, Grows-then, recorded_text, Refusal}
+use Rattle.pg_sessions.proofs.Common.{DONE, OUT_OF_REPLIES}
 use Rattle.pg_files.specs.GameFile.{Entry as GameEntry}
 use Rattle.pg_talk.proofs.Parts.{hears_then}
 use Rattle.pg_sessions.specs.Course.{LeadsBy, Course, BreaksOff}
-use Rattle.pg_sessions.specs.Recording.{GivesRecord, GivesSession, Records, RecordsGame, record_file}
-use Rattle.pg_sessions.specs.SessionLog.{Listens, Closes, Over, Steps, IsOpen, IsClosingLog, standing_count}
+use Rattle.pg_sessions.specs.Recording.{GivesRecord, GivesSession, Records, RecordsGame}
+use Rattle.pg_sessions.specs.Recording.{record_file}
+use Rattle.pg_sessions.specs.SessionLog.{Listens, Closes, Over, Steps, IsOpen, IsClosingLog}
+use Rattle.pg_sessions.specs.SessionLog.{standing_count}
 use Rattle.pg_sessions.proofs.Courses.{leads_then}
 
 -- ---- a session that has ended, and then its record

@@ -1,11 +1,20 @@
 -- How many lines a log refuses.
-use Rattle.std.proofs.Common.{◌≡◌, ◌≢◌, ℕ, ◌+◌, ◌<◌, nat_eq, nat_lt, if◌then◌else◌, Bool, true, false, List, [], ◌∷◌, length, Result, Ok, Err, refl, sym, ap, subst, inl, inr, arith}
-use Rattle.pg_sessions.proofs.Common.{nat_tests, count_by, Bytes, Entry, Said, Heard, Skipped, Ended, judged_move, Game, replay, Event, MAX_EVENTS, MAX_REFUSALS, recorded_text, reply_text, standing_text, ReplyFault, NoNumber, NoPoint, Taken, NothingToTakeBack, OUT_OF_REPLIES}
+use Rattle.std.proofs.Common.{◌≡◌, ◌≢◌, ℕ, ◌+◌, ◌<◌, nat_eq, nat_lt, if◌then◌else◌, Bool, true}
+use Rattle.std.proofs.Common.{false, List, [], ◌∷◌, length, Result, Ok, Err, refl, sym, ap, subst}
+use Rattle.std.proofs.Common.{inl, inr, arith}
+use Rattle.pg_sessions.proofs.Common.{nat_tests, count_by, Bytes, Entry, Said, Heard, Skipped}
+use Rattle.pg_sessions.proofs.Common.{Ended, judged_move, Game, replay, Event, MAX_EVENTS}
+use Rattle.pg_sessions.proofs.Common.{MAX_REFUSALS, recorded_text, reply_text, standing_text}
+use Rattle.pg_sessions.proofs.Common.{ReplyFault, NoNumber, NoPoint, Taken, NothingToTakeBack}
+use Rattle.pg_sessions.proofs.Common.{OUT_OF_REPLIES}
 use Rattle.std.proofs.lemmas.List.Sums.{sum_by-cons}
 use Rattle.pg_messages.specs.declared.message.ReplyFault.TheVariants.{Over as GameOver}
 use Rattle.pg_sessions.specs.Course.{LeadsBy}
 use Rattle.pg_sessions.specs.Request.{request_of}
-use Rattle.pg_sessions.specs.SessionLog.{Stage, Listens, Stands, Refuses, Closes, Over, Steps, IsWholeLog, EndsWith, after_answer, after_event, after_refusal, after_request, back_or_refusal, is_refusal, move_or_refusal, standing_count}
+use Rattle.pg_sessions.specs.SessionLog.{Stage, Listens, Stands, Refuses, Closes, Over, Steps}
+use Rattle.pg_sessions.specs.SessionLog.{IsWholeLog, EndsWith, after_answer, after_event}
+use Rattle.pg_sessions.specs.SessionLog.{after_refusal, after_request, back_or_refusal, is_refusal}
+use Rattle.pg_sessions.specs.SessionLog.{move_or_refusal, standing_count}
 use Rattle.pg_sessions.specs.declared.request.Request.{Request}
 use Rattle.pg_sessions.specs.declared.request.Request.TheVariants as request
 

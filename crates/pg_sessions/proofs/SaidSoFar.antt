@@ -1,6 +1,17 @@
 -- What a review has said, move by move.
-use Rattle.std.proofs.Common.{◌≡◌, ◌∙◌, ℕ, ◌+◌, ◌-◌, ◌<◌, ◌≤◌, Bool, true, false, List, [], ◌∷◌, ◌++◌, length, take, drop, get_or, map, Option, Ok, Err, refl, sym, ap, subst, inl, inr, arith, if◌then◌else◌}
-use Rattle.pg_sessions.proofs.Common.{length-take-le, map-append, take-append-drop, take_all, take_more, Kind, Score, Side, IsPosition-played, IsPosition-start, is_switching, field_points, after, point_count, start, IsPosition, IsLegalPlay, is_free, value, Field, Game, Position, ConsoleTold, Grows, Bytes, Entry, Said, Stop, Read, Write, Memory, Expanded, legal-first, played-more, position_after, budget, IsLeftOpen, talked_texts, Grows-nothing, Grows-then, Finished, Performs, SaysFirst, stop_end, Stopped, lost_text, reviewed_text, unknown_at_text, DONE, UNKNOWN}
+use Rattle.std.proofs.Common.{◌≡◌, ◌∙◌, ℕ, ◌+◌, ◌-◌, ◌<◌, ◌≤◌, Bool, true, false, List, [], ◌∷◌}
+use Rattle.std.proofs.Common.{◌++◌, length, take, drop, get_or, map, Option, Ok, Err, refl, sym, ap}
+use Rattle.std.proofs.Common.{subst, inl, inr, arith, if◌then◌else◌}
+use Rattle.pg_sessions.proofs.Common.{length-take-le, map-append, take-append-drop, take_all}
+use Rattle.pg_sessions.proofs.Common.{take_more, Kind, Score, Side, IsPosition-played}
+use Rattle.pg_sessions.proofs.Common.{IsPosition-start, is_switching, field_points, after}
+use Rattle.pg_sessions.proofs.Common.{point_count, start, IsPosition, IsLegalPlay, is_free, value}
+use Rattle.pg_sessions.proofs.Common.{Field, Game, Position, ConsoleTold, Grows, Bytes, Entry, Said}
+use Rattle.pg_sessions.proofs.Common.{Stop, Read, Write, Memory, Expanded, legal-first, played-more}
+use Rattle.pg_sessions.proofs.Common.{position_after, budget, IsLeftOpen, talked_texts}
+use Rattle.pg_sessions.proofs.Common.{Grows-nothing, Grows-then, Finished, Performs, SaysFirst}
+use Rattle.pg_sessions.proofs.Common.{stop_end, Stopped, lost_text, reviewed_text, unknown_at_text}
+use Rattle.pg_sessions.proofs.Common.{DONE, UNKNOWN}
 use Rattle.pg_sessions.proofs.LossLaws.{told_append, told_more}
 use Rattle.pg_sessions.proofs.Standing.{after-at, at-after, legal-at, start-at}
 use Rattle.pg_sessions.specs.Losses.{Loss, loses_value, loss_at, losses, losses_from}

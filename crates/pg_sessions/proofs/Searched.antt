@@ -1,6 +1,10 @@
 -- Which positions of a review were searched, and what was said before that.
-use Rattle.std.proofs.Common.{◌≡◌, ◌∙◌, ℕ, suc, ◌+◌, ◌-◌, ◌<◌, ◌≤◌, List, [], ◌++◌, length, take, drop, map, refl, sym, ap, subst, inl, inr, arith, append_assoc}
-use Rattle.pg_sessions.proofs.Common.{cases_order, append-nil, map-append, take-append-drop, take-take, Cert, start, Game, Position, ConsoleTold, Grows, Bytes, Entry, Said, Expanded, position_after, LeavesSearch, lost_text}
+use Rattle.std.proofs.Common.{◌≡◌, ◌∙◌, ℕ, suc, ◌+◌, ◌-◌, ◌<◌, ◌≤◌, List, [], ◌++◌, length, take}
+use Rattle.std.proofs.Common.{drop, map, refl, sym, ap, subst, inl, inr, arith, append_assoc}
+use Rattle.pg_sessions.proofs.Common.{cases_order, append-nil, map-append, take-append-drop}
+use Rattle.pg_sessions.proofs.Common.{take-take, Cert, start, Game, Position, ConsoleTold, Grows}
+use Rattle.pg_sessions.proofs.Common.{Bytes, Entry, Said, Expanded, position_after, LeavesSearch}
+use Rattle.pg_sessions.proofs.Common.{lost_text}
 use Rattle.pg_sessions.proofs.LossLaws.{told_append}
 use Rattle.pg_sessions.proofs.Standing.{leaves-more, leaves-then}
 use Rattle.pg_sessions.specs.Along.{IsAlong, IsReached, SaysAtLeast}

@@ -1,9 +1,16 @@
 -- What follows from the rules of logs.
-use Rattle.std.proofs.Common.{◌≡◌, ℕ, ◌+◌, ◌<◌, nat_eq, nat_lt, if◌then◌else◌, Bool, true, false, List, [], ◌∷◌, length, Result, Ok, Err, is_ok, refl, sym, ◌∙◌, ap, subst, arith}
-use Rattle.pg_sessions.proofs.Common.{ltb-true, Entry, Said, Heard, Skipped, Ended, judged_move, Game, Illegal, Position, IsRecord, replay, Event, Play, Back, MAX_EVENTS, record-more, MAX_REFUSALS, NothingToTakeBack, OUT_OF_REPLIES}
+use Rattle.std.proofs.Common.{◌≡◌, ℕ, ◌+◌, ◌<◌, nat_eq, nat_lt, if◌then◌else◌, Bool, true, false}
+use Rattle.std.proofs.Common.{List, [], ◌∷◌, length, Result, Ok, Err, is_ok, refl, sym, ◌∙◌, ap}
+use Rattle.std.proofs.Common.{subst, arith}
+use Rattle.pg_sessions.proofs.Common.{ltb-true, Entry, Said, Heard, Skipped, Ended, judged_move}
+use Rattle.pg_sessions.proofs.Common.{Game, Illegal, Position, IsRecord, replay, Event, Play, Back}
+use Rattle.pg_sessions.proofs.Common.{MAX_EVENTS, record-more, MAX_REFUSALS, NothingToTakeBack}
+use Rattle.pg_sessions.proofs.Common.{OUT_OF_REPLIES}
 use Rattle.pg_sessions.specs.Course.{LeadsBy}
 use Rattle.pg_sessions.specs.Request.{request_of}
-use Rattle.pg_sessions.specs.SessionLog.{Stage, Listens, Stands, Refuses, Closes, Over, Steps, IsLogTo, after_answer, after_event, after_refusal, after_request, events_at, move_or_refusal, standing_count}
+use Rattle.pg_sessions.specs.SessionLog.{Stage, Listens, Stands, Refuses, Closes, Over, Steps}
+use Rattle.pg_sessions.specs.SessionLog.{IsLogTo, after_answer, after_event, after_refusal}
+use Rattle.pg_sessions.specs.SessionLog.{after_request, events_at, move_or_refusal, standing_count}
 use Rattle.pg_sessions.specs.declared.request.Request.{Request}
 use Rattle.pg_sessions.specs.declared.request.Request.TheVariants as request
 

@@ -1,13 +1,18 @@
 -- What the code does line by line, put together.
-use Rattle.std.proofs.Common.{◌≡◌, ◌≢◌, ℕ, ◌+◌, ◌<◌, ◌≤◌, nat_eq, nat_lt, true, false, List, [], ◌∷◌, ◌++◌, length, Result, Ok, Err, refl, sym, ◌∙◌, ap, subst, arith}
-use Rattle.pg_sessions.proofs.Common.{nat_tests, length_push, ConsoleTold, Stop, point_count, judged_move, Game, Illegal, Position, replay, Recorded, refusal_of, Event, Play, Back, MAX_EVENTS, MAX_REFUSALS}
+use Rattle.std.proofs.Common.{◌≡◌, ◌≢◌, ℕ, ◌+◌, ◌<◌, ◌≤◌, nat_eq, nat_lt, true, false, List, []}
+use Rattle.std.proofs.Common.{◌∷◌, ◌++◌, length, Result, Ok, Err, refl, sym, ◌∙◌, ap, subst, arith}
+use Rattle.pg_sessions.proofs.Common.{nat_tests, length_push, ConsoleTold, Stop, point_count}
+use Rattle.pg_sessions.proofs.Common.{judged_move, Game, Illegal, Position, replay, Recorded}
+use Rattle.pg_sessions.proofs.Common.{refusal_of, Event, Play, Back, MAX_EVENTS, MAX_REFUSALS}
 use Rattle.pg_messages.specs.declared.message.ReplyFault.TheVariants as fault
 use Rattle.pg_messages.specs.declared.statuses.TheConstants.{OUT_OF_REPLIES}
 use Rattle.pg_sessions.specs.Course.{Course, BreaksOff, Goes}
 use Rattle.pg_sessions.specs.Turns.{turned}
 use Rattle.pg_sessions.specs.declared.dialogue.Turn.{Turn}
 use Rattle.pg_sessions.proofs.Courses.{breaks_then, course_then}
-use Rattle.pg_sessions.specs.SessionLog.{Stage, Steps, Listens, Stands, Refuses, Closes, Over, IsOpen, after_answer, after_event, after_refusal, after_request, move_or_refusal, reason_of, standing_count}
+use Rattle.pg_sessions.specs.SessionLog.{Stage, Steps, Listens, Stands, Refuses, Closes, Over}
+use Rattle.pg_sessions.specs.SessionLog.{IsOpen, after_answer, after_event, after_refusal}
+use Rattle.pg_sessions.specs.SessionLog.{after_request, move_or_refusal, reason_of, standing_count}
 use Rattle.pg_sessions.specs.declared.request.Request.TheVariants as request
 
 -- ---- where a request leads

@@ -1,6 +1,14 @@
 -- A game that stands at other marks: its rules, values and position.
-use Rattle.std.proofs.Common.{◌≡◌, ◌∙◌, ℕ, zero, suc, ◌<◌, true, not, List, [], ◌∷◌, length, take, get_or, refl, sym, ap, ap₂, subst, inl, inr, arith}
-use Rattle.pg_sessions.proofs.Common.{filter, list_all, list_any, range_with_len, Kind, MakerBreaker, MakerMaker, AvoiderEnforcer, Switching, Side, X, Y, field_joins, field_lines, field_points, after, free_points, is_empty, is_filled, is_over, is_over_by, is_touched, outcome, outcome_by, point_count, start, IsPosition, IsLegalPlay, played, after_with, claims_in_turn, is_free, points_of, rules_of, value, Field, Game, Position, Expanded, budget, IsLeft, LeavesSearch}
+use Rattle.std.proofs.Common.{◌≡◌, ◌∙◌, ℕ, zero, suc, ◌<◌, true, not, List, [], ◌∷◌, length, take}
+use Rattle.std.proofs.Common.{get_or, refl, sym, ap, ap₂, subst, inl, inr, arith}
+use Rattle.pg_sessions.proofs.Common.{filter, list_all, list_any, range_with_len, Kind}
+use Rattle.pg_sessions.proofs.Common.{MakerBreaker, MakerMaker, AvoiderEnforcer, Switching, Side, X}
+use Rattle.pg_sessions.proofs.Common.{Y, field_joins, field_lines, field_points, after, free_points}
+use Rattle.pg_sessions.proofs.Common.{is_empty, is_filled, is_over, is_over_by, is_touched, outcome}
+use Rattle.pg_sessions.proofs.Common.{outcome_by, point_count, start, IsPosition, IsLegalPlay}
+use Rattle.pg_sessions.proofs.Common.{played, after_with, claims_in_turn, is_free, points_of}
+use Rattle.pg_sessions.proofs.Common.{rules_of, value, Field, Game, Position, Expanded, budget}
+use Rattle.pg_sessions.proofs.Common.{IsLeft, LeavesSearch}
 use Rattle.std.specs.FinSet.{contains}
 use Rattle.pg_game.specs.Rules.{Rules, value_by}
 use Rattle.pg_sessions.specs.Known.{HaveNodes, IsKnown}

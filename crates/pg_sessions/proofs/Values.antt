@@ -1,6 +1,11 @@
 -- What is known of a game's values, by what solving tells.
-use Rattle.std.proofs.Common.{◌≡◌, ◌∙◌, ℕ, zero, suc, List, [], ◌∷◌, Some, slice_get, map, refl, sym, ap, subst, IfSome}
-use Rattle.pg_sessions.proofs.Common.{none-some, Score, XWins, Draw, YWins, Side, X, Y, IsWithinLimits, position_of, IsNodeOf, IsValid, Cert, Claim, Node, start, with_turn, value, Forces, Game, Position, Heading, due_for_value, heading, winner, IsShown, IsTrueOf, certificate_of, due, Solution, Value, Unknown}
+use Rattle.std.proofs.Common.{◌≡◌, ◌∙◌, ℕ, zero, suc, List, [], ◌∷◌, Some, slice_get, map, refl}
+use Rattle.std.proofs.Common.{sym, ap, subst, IfSome}
+use Rattle.pg_sessions.proofs.Common.{none-some, Score, XWins, Draw, YWins, Side, X, Y}
+use Rattle.pg_sessions.proofs.Common.{IsWithinLimits, position_of, IsNodeOf, IsValid, Cert, Claim}
+use Rattle.pg_sessions.proofs.Common.{Node, start, with_turn, value, Forces, Game, Position}
+use Rattle.pg_sessions.proofs.Common.{Heading, due_for_value, heading, winner, IsShown, IsTrueOf}
+use Rattle.pg_sessions.proofs.Common.{certificate_of, due, Solution, Value, Unknown}
 use Rattle.pg_check.proofs.ForcedNodes.{Forces-node, claim_limits}
 use Rattle.pg_game.specs.Class.{class_by, class_of}
 use Rattle.pg_solve.proofs.Values.{both-draw, x-wins, y-wins}

@@ -1,6 +1,8 @@
 -- Where along the moves of a record a review stands, and what it has said by then.
-use Rattle.std.specs.Prelude.{◌≡◌, ℕ, ◌-◌, ◌≤◌, List, ◌++◌, length, map, take, Option, Some, None, Ok, ⊤}
-use Rattle.pg_sessions.specs.Prelude.{ConsoleTold, Grows, Bytes, Holding, Entry, Said, entry, Game, game_held, position_after}
+use Rattle.std.specs.Prelude.{◌≡◌, ℕ, ◌-◌, ◌≤◌, List, ◌++◌, length, map, take, Option, Some, None}
+use Rattle.std.specs.Prelude.{Ok, ⊤}
+use Rattle.pg_sessions.specs.Prelude.{ConsoleTold, Grows, Bytes, Holding, Entry, Said, entry, Game}
+use Rattle.pg_sessions.specs.Prelude.{game_held, position_after}
 use Rattle.pg_sessions.specs.Review.{IsGameAt, loss_texts, moves_held}
 
 -- the game with the marks and the turn of the position after some of the moves

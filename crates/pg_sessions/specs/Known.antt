@@ -1,6 +1,9 @@
 -- What is known of the values of a game, and where else it holds.
 use Rattle.std.specs.Prelude.{◌≡◌, ◌≢◌, ◌⊎◌, ℕ, Option, Some, None}
-use Rattle.pg_sessions.specs.Prelude.{All, Switching, Score, XWins, YWins, Side, X, Y, IsNodeOf, IsValid, Cert, Claim, value, Game, Position, Expanded, winner, budget, IsAskedLast, IsLeft, certificate_of, IsShown, IsTrueOf, Solution, Value, Unknown}
+use Rattle.pg_sessions.specs.Prelude.{All, Switching, Score, XWins, YWins, Side, X, Y, IsNodeOf}
+use Rattle.pg_sessions.specs.Prelude.{IsValid, Cert, Claim, value, Game, Position, Expanded, winner}
+use Rattle.pg_sessions.specs.Prelude.{budget, IsAskedLast, IsLeft, certificate_of, IsShown}
+use Rattle.pg_sessions.specs.Prelude.{IsTrueOf, Solution, Value, Unknown}
 use Rattle.pg_solve.specs.declared.solution.Solution.TheVariants.{Class as ForClass}
 use Rattle.pg_sessions.specs.declared.known.Known.{Known}
 

@@ -1,6 +1,7 @@
 -- Which moves of a play lost value: the game's value after them is worse for the side that moved
 -- than before.
-use Rattle.std.specs.Prelude.{◌≡◌, ℕ, ◌+◌, Bool, true, not, if◌then◌else◌, List, [], ◌∷◌, ◌++◌, take, Some, slice_get}
+use Rattle.std.specs.Prelude.{◌≡◌, ℕ, ◌+◌, Bool, true, not, if◌then◌else◌, List, [], ◌∷◌, ◌++◌}
+use Rattle.std.specs.Prelude.{take, Some, slice_get}
 use Rattle.pg_sessions.specs.Prelude.{Score, Side, X, Y, after, played, value, Game, Position}
 use Rattle.pg_game.specs.Decided.{at_least}
 

@@ -1,6 +1,7 @@
 -- What the definitions of this crate name of std and of the crates below.
 pub use Rattle.pg_base.specs.declared.kind.Kind.{Kind}
-pub use Rattle.pg_base.specs.declared.kind.Kind.TheVariants.{AvoiderEnforcer, MakerBreaker, MakerMaker, Switching}
+pub use Rattle.pg_base.specs.declared.kind.Kind.TheVariants.{AvoiderEnforcer, MakerBreaker}
+pub use Rattle.pg_base.specs.declared.kind.Kind.TheVariants.{MakerMaker, Switching}
 pub use Rattle.pg_base.specs.declared.score.Score.{Score}
 pub use Rattle.pg_base.specs.declared.score.Score.TheVariants.{Draw, XWins, YWins}
 pub use Rattle.pg_base.specs.declared.side.Side.{Side}
@@ -14,7 +15,8 @@ pub use Rattle.pg_cert.specs.declared.node.Node.{Node}
 pub use Rattle.pg_files.specs.Views.{entry}
 pub use Rattle.pg_game.specs.Field.{field_joins, field_lines, field_points}
 pub use Rattle.pg_game.specs.Fit.{is_switching}
-pub use Rattle.pg_game.specs.Game.{IsGameOf, IsPosition, after, is_empty, is_filled, is_over_by, is_touched, outcome_by, point_count, start, with_turn}
+pub use Rattle.pg_game.specs.Game.{IsGameOf, IsPosition, after, is_empty, is_filled, is_over_by}
+pub use Rattle.pg_game.specs.Game.{is_touched, outcome_by, point_count, start, with_turn}
 unfoldable pub use Rattle.pg_game.specs.Game.{free_points, is_over, outcome}
 pub use Rattle.pg_game.specs.Judge.{judged_move}
 pub use Rattle.pg_game.specs.Play.{IsLegalPlay, played}
@@ -32,9 +34,11 @@ pub use Rattle.pg_io.specs.declared.entry.Entry.{Entry}
 pub use Rattle.pg_io.specs.declared.entry.Entry.TheVariants.{Ended, Heard, Said, Skipped}
 pub use Rattle.pg_io.specs.declared.stop.Stop.{Stop}
 pub use Rattle.pg_io.specs.declared.stop.Stop.TheVariants.{Memory, Read, Write}
-pub use Rattle.pg_messages.specs.Texts.{lost_text, recorded_text, reply_text, reviewed_text, standing_text, unknown_at_text}
+pub use Rattle.pg_messages.specs.Texts.{lost_text, recorded_text, reply_text, reviewed_text}
+pub use Rattle.pg_messages.specs.Texts.{standing_text, unknown_at_text}
 pub use Rattle.pg_messages.specs.declared.message.ReplyFault.{ReplyFault}
-pub use Rattle.pg_messages.specs.declared.message.ReplyFault.TheVariants.{NoNumber, NoPoint, NothingToTakeBack, Taken}
+pub use Rattle.pg_messages.specs.declared.message.ReplyFault.TheVariants.{NoNumber, NoPoint}
+pub use Rattle.pg_messages.specs.declared.message.ReplyFault.TheVariants.{NothingToTakeBack, Taken}
 pub use Rattle.pg_messages.specs.declared.refusal.Refusal.{Refusal}
 pub use Rattle.pg_messages.specs.declared.statuses.TheConstants.{DONE, OUT_OF_REPLIES, UNKNOWN}
 pub use Rattle.pg_pns.specs.Expanded.{Expanded}
@@ -53,7 +57,8 @@ pub use Rattle.pg_solve.specs.Solved.{IsShown, IsTrueOf, certificate_of, due}
 pub use Rattle.pg_solve.specs.declared.solution.Solution.{Solution}
 pub use Rattle.pg_solve.specs.declared.solution.Solution.TheVariants.{Unknown, Value}
 pub use Rattle.pg_solve.specs.declared.solving.TheConstants.{MIN_POSITIONS}
-pub use Rattle.pg_talk.specs.Done.{Changes, Does, Done, End, Failed, Finished, Follows, Performs, SaysFirst, Starved, Stops, stop_end, talk}
+pub use Rattle.pg_talk.specs.Done.{Changes, Does, Done, End, Failed, Finished, Follows, Performs}
+pub use Rattle.pg_talk.specs.Done.{SaysFirst, Starved, Stops, stop_end, talk}
 pub use Rattle.pg_talk.specs.Halts.{BothCauses, HaltCauses, IsGameHalt, IsWriteHalt}
 pub use Rattle.pg_talk.specs.Hearing.{Hearing}
 pub use Rattle.pg_talk.specs.Opening.{IsGameLacking, IsSaidBy, OpensGame, game_held}
@@ -64,5 +69,6 @@ pub use Rattle.pg_talk.specs.Talk.{with_left}
 pub use Rattle.pg_talk.specs.declared.dialogue.TheConstants.{MAX_REFUSALS, MAX_REPLY}
 pub use Rattle.pg_talk.specs.declared.halt.Halt.{Halt}
 pub use Rattle.pg_talk.specs.declared.halt.Halt.TheVariants.{Refused, Stopped}
-pub use Rattle.std.specs.List.{All, AllPairs, Contains, count_by, filter, list_all, list_any, range_with_len}
+pub use Rattle.std.specs.List.{All, AllPairs, Contains, count_by, filter, list_all, list_any}
+pub use Rattle.std.specs.List.{range_with_len}
 pub use Rattle.std.specs.Str.{bytes_eq}

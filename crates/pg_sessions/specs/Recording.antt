@@ -1,6 +1,8 @@
 -- What recording a session does.
 use Rattle.std.specs.Prelude.{◌≡◌, ◌⊎◌, ℕ, ◌==◌, List, [], ◌∷◌, Result, Ok, Err, if◌then◌else◌, ⊤}
-use Rattle.pg_sessions.specs.Prelude.{Bytes, Making, Game, IsSaidBy, printed_record, Event, Done, End, Finished, Failed, Starved, IsGameHalt, Halt, Refused, Stopped, DONE, OUT_OF_REPLIES}
+use Rattle.pg_sessions.specs.Prelude.{Bytes, Making, Game, IsSaidBy, printed_record, Event, Done}
+use Rattle.pg_sessions.specs.Prelude.{End, Finished, Failed, Starved, IsGameHalt, Halt, Refused}
+use Rattle.pg_sessions.specs.Prelude.{Stopped, DONE, OUT_OF_REPLIES}
 use Rattle.pg_files.specs.GameFile.{Entry as GameEntry}
 use Rattle.pg_sessions.specs.SessionLog.{IsClosingLog, IsOpenLog, IsWholeLog}
 

@@ -1,8 +1,17 @@
 -- What a review of a recorded game does: it says which of the standing moves lost value.
-use Rattle.std.specs.Prelude.{◌≡◌, ◌⊎◌, ℕ, zero, suc, ◌-◌, ◌<◌, ◌≤◌, nat_lt, false, if◌then◌else◌, List, [], ◌∷◌, ◌++◌, length, map, take, Option, Some, None, Result, Ok, Err, ⊤}
-use Rattle.pg_sessions.specs.Prelude.{Bytes, Holding, Entry, Said, Memory, Cert, is_switching, start, IsGameOf, Game, Position, position_after, standing, Event, record_of, number_of, Fault, Expanded, budget, IsLeftOpen, lost_text, reviewed_text, unknown_at_text, Refusal, DONE, UNKNOWN, Done, End, Finished, Failed, Starved, SaysFirst, game_fault, held_as, lacking, Halt, Refused, Stopped, IsSaidBy, game_held}
+use Rattle.std.specs.Prelude.{◌≡◌, ◌⊎◌, ℕ, zero, suc, ◌-◌, ◌<◌, ◌≤◌, nat_lt, false, if◌then◌else◌}
+use Rattle.std.specs.Prelude.{List, [], ◌∷◌, ◌++◌, length, map, take, Option, Some, None, Result}
+use Rattle.std.specs.Prelude.{Ok, Err, ⊤}
+use Rattle.pg_sessions.specs.Prelude.{Bytes, Holding, Entry, Said, Memory, Cert, is_switching}
+use Rattle.pg_sessions.specs.Prelude.{start, IsGameOf, Game, Position, position_after, standing}
+use Rattle.pg_sessions.specs.Prelude.{Event, record_of, number_of, Fault, Expanded, budget}
+use Rattle.pg_sessions.specs.Prelude.{IsLeftOpen, lost_text, reviewed_text, unknown_at_text}
+use Rattle.pg_sessions.specs.Prelude.{Refusal, DONE, UNKNOWN, Done, End, Finished, Failed, Starved}
+use Rattle.pg_sessions.specs.Prelude.{SaysFirst, game_fault, held_as, lacking, Halt, Refused}
+use Rattle.pg_sessions.specs.Prelude.{Stopped, IsSaidBy, game_held}
 use Rattle.pg_files.specs.GameFile.{Entry as GameEntry}
-use Rattle.pg_messages.specs.declared.refusal.Refusal.TheVariants.{Game as FaultyGame, Record as FaultyRecord}
+use Rattle.pg_messages.specs.declared.refusal.Refusal.TheVariants.{Game as FaultyGame}
+use Rattle.pg_messages.specs.declared.refusal.Refusal.TheVariants.{Record as FaultyRecord}
 use Rattle.pg_sessions.specs.Known.{HaveNodes, IsSolvedBy}
 use Rattle.pg_sessions.specs.Losses.{Loss, losses}
 use Rattle.pg_sessions.specs.declared.opening.TheConstants.{SEVERAL_A_TURN}

@@ -1,7 +1,11 @@
 -- THE LOG OF A RECORDED SESSION: each entry heard is followed by the one text due to it, and the
 -- session is then the one after it. It is asked neither how the session is kept nor what keeps it.
-use Rattle.std.specs.Prelude.{◌≡◌, ◌⊎◌, ℕ, ◌+◌, ◌<◌, ◌==◌, nat_lt, Bool, false, List, [], ◌∷◌, ◌++◌, length, take, Result, Ok, Err, codes, if◌then◌else◌, ⊤}
-use Rattle.pg_sessions.specs.Prelude.{bytes_eq, Entry, Said, Heard, Skipped, Ended, judged_move, Game, Illegal, Position, replay, Event, Play, Back, MAX_EVENTS, MAX_REFUSALS, recorded_text, reply_text, standing_text, ReplyFault}
+use Rattle.std.specs.Prelude.{◌≡◌, ◌⊎◌, ℕ, ◌+◌, ◌<◌, ◌==◌, nat_lt, Bool, false, List, [], ◌∷◌, ◌++◌}
+use Rattle.std.specs.Prelude.{length, take, Result, Ok, Err, codes, if◌then◌else◌, ⊤}
+use Rattle.pg_sessions.specs.Prelude.{bytes_eq, Entry, Said, Heard, Skipped, Ended, judged_move}
+use Rattle.pg_sessions.specs.Prelude.{Game, Illegal, Position, replay, Event, Play, Back}
+use Rattle.pg_sessions.specs.Prelude.{MAX_EVENTS, MAX_REFUSALS, recorded_text, reply_text}
+use Rattle.pg_sessions.specs.Prelude.{standing_text, ReplyFault}
 use Rattle.pg_game.specs.declared.position.Illegal.TheVariants as illegal
 use Rattle.pg_messages.specs.declared.message.ReplyFault.TheVariants as fault
 use Rattle.pg_messages.specs.declared.statuses.TheConstants.{DONE, OUT_OF_REPLIES}

@@ -1,6 +1,8 @@
 -- Different positions of one list that all stand in another are no more than that one has.
-use Rattle.std.proofs.Common.{◌≡◌, ℕ, zero, suc, ◌<◌, ◌≤◌, Some, List, [], ◌∷◌, length, refl, subst, arith, slice_get}
-use Rattle.pg_solve.proofs.Common.{none-some, slice_get_within, Score, IsOpenTable, Game, Position, contains_at, one_at, table-reached}
+use Rattle.std.proofs.Common.{◌≡◌, ℕ, zero, suc, ◌<◌, ◌≤◌, Some, List, [], ◌∷◌, length, refl, subst}
+use Rattle.std.proofs.Common.{arith, slice_get}
+use Rattle.pg_solve.proofs.Common.{none-some, slice_get_within, Score, IsOpenTable, Game, Position}
+use Rattle.pg_solve.proofs.Common.{contains_at, one_at, table-reached}
 use Rattle.pg_solve.specs.Reached.{AreReachable, HasAllReachable}
 
 module _ {A : Type 0} where

@@ -1,6 +1,15 @@
 -- Claims of one node by trees or by cuts are valid and within the limits.
-use Rattle.std.proofs.Common.{◌≡◌, ◌∙◌, ℕ, zero, suc, Bool, true, false, if◌then◌else◌, List, refl, sym, subst, inl, inr, arith}
-use Rattle.pg_solve.proofs.Common.{both_ways, cases_Bool, cases_eq, false_from_ne_true, none-some, FinSet, contains, insert, remove, nat_cmp, Win, Kind, Switching, Side, X, Y, ArePoints, IsBody, IsClaim, IsOfVersion, has_body, position_of, AreEdgeSets, EndsRight, FollowMoves, HasCuts, HasPairs, HasPotential, HasThreat, HasTrees, HasTurn, IsValidClaim, NamesEarlier, TakesFree, is_allowed, with_e_named, Claim, One, Body, Trees, Cuts, Node, IsPosition-with_turn, point_count, with_turn, AreFreeEdges, AreFreeWithE, TreesHoldOn, CutsHoldOn, Game, Position, one_at, SetsHold}
+use Rattle.std.proofs.Common.{◌≡◌, ◌∙◌, ℕ, zero, suc, Bool, true, false, if◌then◌else◌, List, refl}
+use Rattle.std.proofs.Common.{sym, subst, inl, inr, arith}
+use Rattle.pg_solve.proofs.Common.{both_ways, cases_Bool, cases_eq, false_from_ne_true, none-some}
+use Rattle.pg_solve.proofs.Common.{FinSet, contains, insert, remove, nat_cmp, Win, Kind, Switching}
+use Rattle.pg_solve.proofs.Common.{Side, X, Y, ArePoints, IsBody, IsClaim, IsOfVersion, has_body}
+use Rattle.pg_solve.proofs.Common.{position_of, AreEdgeSets, EndsRight, FollowMoves, HasCuts}
+use Rattle.pg_solve.proofs.Common.{HasPairs, HasPotential, HasThreat, HasTrees, HasTurn}
+use Rattle.pg_solve.proofs.Common.{IsValidClaim, NamesEarlier, TakesFree, is_allowed, with_e_named}
+use Rattle.pg_solve.proofs.Common.{Claim, One, Body, Trees, Cuts, Node, IsPosition-with_turn}
+use Rattle.pg_solve.proofs.Common.{point_count, with_turn, AreFreeEdges, AreFreeWithE, TreesHoldOn}
+use Rattle.pg_solve.proofs.Common.{CutsHoldOn, Game, Position, one_at, SetsHold}
 use Rattle.pg_base.proofs.PointSetLaws.{insert-remove, remove-old, remove-other, remove-self}
 use Rattle.pg_base.specs.Points.{AreBelow}
 use Rattle.pg_base.specs.Side.{other}
@@ -17,7 +26,8 @@ use Rattle.pg_pns.specs.Sound.{BodyHolds, NodesHold}
 use Rattle.pg_lehman.specs.ClassClaims.{class_claims, node_at, one_node, set_claim, sets_body}
 use Rattle.pg_lehman.specs.declared.class.Class.{Class as Sets}
 use Rattle.pg_lehman.specs.declared.class.Class.TheVariants as sets
-use Rattle.pg_solve.specs.EdgeClaims.{AreClassClaims, EdgeSetsHold, IsEdgeBody, IsEdgeClaim, without_sets}
+use Rattle.pg_solve.specs.EdgeClaims.{AreClassClaims, EdgeSetsHold, IsEdgeBody, IsEdgeClaim}
+use Rattle.pg_solve.specs.EdgeClaims.{without_sets}
 
 -- ---- e, and the members of the sets
 

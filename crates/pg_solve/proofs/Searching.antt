@@ -1,6 +1,11 @@
 -- What the claims that searches find show of the value.
-use Rattle.std.proofs.Common.{◌≡◌, ◌≢◌, ℕ, Bool, true, false, List, Some, slice_get, refl, sym, subst, inl, inr}
-use Rattle.pg_solve.proofs.Common.{Goal, Win, Kind, MakerBreaker, MakerMaker, AvoiderEnforcer, Switching, Score, XWins, Draw, YWins, Side, X, Y, position_of, Claim, Node, IsPosition-start, IsPosition-after, claimer, claimed_goal, start, IsPosition, IsTable, value, Forces, Game, Position, contains_at, table-reached, IsClaimOf, IsReachable}
+use Rattle.std.proofs.Common.{◌≡◌, ◌≢◌, ℕ, Bool, true, false, List, Some, slice_get, refl, sym}
+use Rattle.std.proofs.Common.{subst, inl, inr}
+use Rattle.pg_solve.proofs.Common.{Goal, Win, Kind, MakerBreaker, MakerMaker, AvoiderEnforcer}
+use Rattle.pg_solve.proofs.Common.{Switching, Score, XWins, Draw, YWins, Side, X, Y, position_of}
+use Rattle.pg_solve.proofs.Common.{Claim, Node, IsPosition-start, IsPosition-after, claimer}
+use Rattle.pg_solve.proofs.Common.{claimed_goal, start, IsPosition, IsTable, value, Forces, Game}
+use Rattle.pg_solve.proofs.Common.{Position, contains_at, table-reached, IsClaimOf, IsReachable}
 use Rattle.pg_check.proofs.ForcedNodes.{Forces-standing}
 use Rattle.pg_pns.specs.Reachable.IsReachable.{by_start, by_move}
 use Rattle.pg_solve.proofs.Values.{x-wins, y-wins, x-denied, both-draw}

@@ -1,10 +1,13 @@
 -- Claims of one node that stand on two sets of edges.
 use Rattle.std.specs.Prelude.{◌≡◌, Bool, true, false, List, [], ◌∷◌}
-use Rattle.pg_solve.specs.Prelude.{FinSet, nat_cmp, Win, Side, X, Y, IsClaim, IsOfVersion, position_of, IsValidClaim, Claim, One, Body, Trees, Cuts, Node, with_turn, TreesHold, CutsHold, Game, Position}
+use Rattle.pg_solve.specs.Prelude.{FinSet, nat_cmp, Win, Side, X, Y, IsClaim, IsOfVersion}
+use Rattle.pg_solve.specs.Prelude.{position_of, IsValidClaim, Claim, One, Body, Trees, Cuts, Node}
+use Rattle.pg_solve.specs.Prelude.{with_turn, TreesHold, CutsHold, Game, Position}
 use Rattle.pg_game.specs.Class.{Class as Named}
 use Rattle.pg_game.specs.Class.Class.{Short as ForShort, Cut as ForCut, First as ForFirst}
 use Rattle.pg_lehman.specs.declared.class.Class.{Class as Sets}
-use Rattle.pg_lehman.specs.declared.class.Class.TheVariants.{Short as ShortSets, Cut as CutSets, First as FirstSets}
+use Rattle.pg_lehman.specs.declared.class.Class.TheVariants.{Short as ShortSets, Cut as CutSets}
+use Rattle.pg_lehman.specs.declared.class.Class.TheVariants.{First as FirstSets}
 use Rattle.pg_solve.specs.Due.{winner}
 use Rattle.pg_solve.specs.declared.solution.Class.{Class}
 use Rattle.pg_solve.specs.declared.solution.Class.TheVariants.{Short, Cut, First}

@@ -1,6 +1,7 @@
 -- What solving leaves in the work.
 use Rattle.std.specs.Prelude.{◌≡◌, ◌≢◌, ◌≤◌, ◌⊎◌, ℕ, length, Option, Some}
-use Rattle.pg_solve.specs.Prelude.{Kind, MakerMaker, Switching, Score, XWins, Draw, YWins, free_points, start, IsTable, IsOpenTable, value, Game, Expanded}
+use Rattle.pg_solve.specs.Prelude.{Kind, MakerMaker, Switching, Score, XWins, Draw, YWins}
+use Rattle.pg_solve.specs.Prelude.{free_points, start, IsTable, IsOpenTable, value, Game, Expanded}
 use Rattle.pg_pns.specs.Budget.{budget_for}
 use Rattle.pg_solve.specs.Searched.{last_question}
 use Rattle.pg_solve.specs.declared.solution.Solution.{Solution}

@@ -1,6 +1,7 @@
 -- Claims that a search has found, and the value that they show.
 use Rattle.std.specs.Prelude.{◌≡◌, ◌≤◌, ℕ, Bool, true, false, List, [], ◌∷◌, length}
-use Rattle.pg_solve.specs.Prelude.{Kind, MakerMaker, Score, XWins, Draw, YWins, Claim, IsTable, Game, Position, IsClaimOf}
+use Rattle.pg_solve.specs.Prelude.{Kind, MakerMaker, Score, XWins, Draw, YWins, Claim, IsTable}
+use Rattle.pg_solve.specs.Prelude.{Game, Position, IsClaimOf}
 
 -- the question whose answer tells that the value is this one: whether X wins, and in Maker-Maker
 -- after a no whether X at least draws

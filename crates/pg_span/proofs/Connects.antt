@@ -1,7 +1,15 @@
 -- Edges that join every two vertices, and a judge's tests of them.
-use Rattle.std.proofs.Common.{◌≡◌, ℕ, ◌<◌, ◌≤◌, zero, suc, Bool, true, false, ◌&&◌, ◌||◌, ◌⊎◌, not, Option, Some, None, [], refl, inl, inr, sym, ap, ◌∙◌, subst, arith}
+use Rattle.std.proofs.Common.{◌≡◌, ℕ, ◌<◌, ◌≤◌, zero, suc, Bool, true, false, ◌&&◌, ◌||◌, ◌⊎◌, not}
+use Rattle.std.proofs.Common.{Option, Some, None, [], refl, inl, inr, sym, ap, ◌∙◌, subst, arith}
 use Rattle.std.specs.Prelude.{IfSome, IfNone, is_some, nat_lt}
-use Rattle.pg_span.proofs.Common.{cases_Bool, both_ways, and_from, false_from_ne_true, lt-ltb, ltb-true, FinSet, contains, nat_cmp, below, either, IsBelow, below_from, either_right, Graph, IsGraph, edge_count, first_end_of, second_end_of, IsJoinedIn, Crosses, IsLowest, uncrossed_joins, ends_in_range, joins_same, joined_on, joined_back, joined_more, joins_sound, joins_complete, joins_below, joins_pairs, joined_pairs, YWins, Position, ending_by, kept}
+use Rattle.pg_span.proofs.Common.{cases_Bool, both_ways, and_from, false_from_ne_true, lt-ltb}
+use Rattle.pg_span.proofs.Common.{ltb-true, FinSet, contains, nat_cmp, below, either, IsBelow}
+use Rattle.pg_span.proofs.Common.{below_from, either_right, Graph, IsGraph, edge_count}
+use Rattle.pg_span.proofs.Common.{first_end_of, second_end_of, IsJoinedIn, Crosses, IsLowest}
+use Rattle.pg_span.proofs.Common.{uncrossed_joins, ends_in_range, joins_same, joined_on}
+use Rattle.pg_span.proofs.Common.{joined_back, joined_more, joins_sound, joins_complete}
+use Rattle.pg_span.proofs.Common.{joins_below, joins_pairs, joined_pairs, YWins, Position}
+use Rattle.pg_span.proofs.Common.{ending_by, kept}
 use Rattle.pg_graph.specs.Walks.{joins}
 use Rattle.pg_span.specs.declared.game.SpanGame.{SpanGame}
 use Rattle.pg_span.specs.Judge.{connects}

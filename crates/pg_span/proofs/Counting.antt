@@ -1,7 +1,11 @@
 -- Counting different numbers of vertices, and edges between them.
-use Rattle.std.proofs.Common.{◌≡◌, ℕ, ◌<◌, ◌+◌, suc, Bool, true, false, ◌&&◌, ◌||◌, ◌==◌, refl, inl, inr, ap, ◌∙◌, subst, slice_index, arith, zero}
+use Rattle.std.proofs.Common.{◌≡◌, ℕ, ◌<◌, ◌+◌, suc, Bool, true, false, ◌&&◌, ◌||◌, ◌==◌, refl, inl}
+use Rattle.std.proofs.Common.{inr, ap, ◌∙◌, subst, slice_index, arith, zero}
 use Rattle.std.specs.Prelude.{◌↔◌, IsTrue, List, length}
-use Rattle.pg_span.proofs.Common.{cases_Bool, eqb-true, false_from_ne_true, contains, count, one_if, plus, count_same, count_plus, edge_count, first_end_of, second_end_of, is_free, Position, crosses, crossing, image, image-at}
+use Rattle.pg_span.proofs.Common.{cases_Bool, eqb-true, false_from_ne_true, contains, count, one_if}
+use Rattle.pg_span.proofs.Common.{plus, count_same, count_plus, edge_count, first_end_of}
+use Rattle.pg_span.proofs.Common.{second_end_of, is_free, Position, crosses, crossing, image}
+use Rattle.pg_span.proofs.Common.{image-at}
 use Rattle.pg_span.specs.Conditions.{AreFew}
 use Rattle.pg_span.specs.Valid.{ArePartsOfGame}
 use Rattle.pg_span.specs.declared.cert.TheConstants.{PART_NUMBERS}

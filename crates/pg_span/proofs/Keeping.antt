@@ -1,7 +1,19 @@
 -- The own move keeps the plan, and so the side goes on to its win.
-use Rattle.std.proofs.Common.{◌≡◌, ◌≢◌, ◌⊎◌, ℕ, ◌<◌, ◌≤◌, suc, Bool, true, false, ◌&&◌, List, [], ◌∷◌, ◌++◌, Option, Some, None, Result, Ok, Err, inl, inr, refl, sym, ap, ◌∙◌, subst, subst₂, arith}
+use Rattle.std.proofs.Common.{◌≡◌, ◌≢◌, ◌⊎◌, ℕ, ◌<◌, ◌≤◌, suc, Bool, true, false, ◌&&◌, List, []}
+use Rattle.std.proofs.Common.{◌∷◌, ◌++◌, Option, Some, None, Result, Ok, Err, inl, inr, refl, sym}
+use Rattle.std.proofs.Common.{ap, ◌∙◌, subst, subst₂, arith}
 use Rattle.std.specs.Prelude.{IfSome, nat_lt, if◌then◌else◌, length, slice_index}
-use Rattle.pg_span.proofs.Common.{cases_Bool, both_ways, false_from_ne_true, ltb-true, FinSet, contains, insert, remove, nat_cmp, AreBelow, plus, minus, either, below, other, Win, Score, Side, X, Y, below_parts, below_from, contains-insert_plus, minus_parts, minus_from, either_cases, plus_cases, edge_count, first_end_of, second_end_of, Room, AreEdges, ends_in_range, Position, is_free, ending_by, judged_by, Rules, moved, reaches, IsEnding, IsPlayBy, played_by, ForcesBy, IsFreeEdge, answered_edge, short_edge, trees_answer, IsPlace, joins_all, AreJoiningTrees, turn-next, free-next, x-plus, x-same, IsPlace-next, IsEnding-claims, ForcesBy-joining_trees, joins_all-more, ForcesBy-parts}
+use Rattle.pg_span.proofs.Common.{cases_Bool, both_ways, false_from_ne_true, ltb-true, FinSet}
+use Rattle.pg_span.proofs.Common.{contains, insert, remove, nat_cmp, AreBelow, plus, minus, either}
+use Rattle.pg_span.proofs.Common.{below, other, Win, Score, Side, X, Y, below_parts, below_from}
+use Rattle.pg_span.proofs.Common.{contains-insert_plus, minus_parts, minus_from, either_cases}
+use Rattle.pg_span.proofs.Common.{plus_cases, edge_count, first_end_of, second_end_of, Room}
+use Rattle.pg_span.proofs.Common.{AreEdges, ends_in_range, Position, is_free, ending_by, judged_by}
+use Rattle.pg_span.proofs.Common.{Rules, moved, reaches, IsEnding, IsPlayBy, played_by, ForcesBy}
+use Rattle.pg_span.proofs.Common.{IsFreeEdge, answered_edge, short_edge, trees_answer, IsPlace}
+use Rattle.pg_span.proofs.Common.{joins_all, AreJoiningTrees, turn-next, free-next, x-plus, x-same}
+use Rattle.pg_span.proofs.Common.{IsPlace-next, IsEnding-claims, ForcesBy-joining_trees}
+use Rattle.pg_span.proofs.Common.{joins_all-more, ForcesBy-parts}
 use Rattle.pg_game.specs.declared.position.Illegal.{Illegal}
 use Rattle.pg_game.specs.declared.position.Illegal.TheVariants.{Range, Taken, Over}
 use Rattle.pg_game.proofs.RulesLaws.{some_free, value_by-over, ForcesBy-all-from}
@@ -21,7 +33,8 @@ use Rattle.pg_span.specs.declared.cert.TheConstants.{PART_NUMBERS}
 use Rattle.pg_span.proofs.ClassLemmas.{forced-by}
 use Rattle.pg_span.proofs.Connects.{connects-sound, connects-complete}
 use Rattle.pg_span.proofs.PartSteps.{parts-claimed, parts-replied, parts-edge}
-use Rattle.pg_span.proofs.TreeSteps.{AreJoining, TreesDue, IsTreesEdge, remove-both, due-edges, due-edges_two, trees-kept}
+use Rattle.pg_span.proofs.TreeSteps.{AreJoining, TreesDue, IsTreesEdge, remove-both, due-edges}
+use Rattle.pg_span.proofs.TreeSteps.{due-edges_two, trees-kept}
 
 -- ---- legal moves
 

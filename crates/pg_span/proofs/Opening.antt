@@ -1,6 +1,10 @@
 -- What a player has when it is opened.
-use Rattle.std.proofs.Common.{◌≡◌, ◌∙◌, ℕ, ◌≤◌, Bool, true, List, [], Option, Some, None, find, get_or, slice_get, suc, ◌∷◌, inl, inr, refl, sym, ap, subst}
-use Rattle.pg_span.proofs.Common.{All-get_or, slice_get-get_or, slice_get_within, All, and_parts, false≢true, cases_Bool, Coded-set, coded_ℕ, coded_bool, FinSet, nat_cmp, is_same_side, Side, X, Y, edge_count, Position, IsPlace, AreParts, AreJoiningTrees, IsFirst}
+use Rattle.std.proofs.Common.{◌≡◌, ◌∙◌, ℕ, ◌≤◌, Bool, true, List, [], Option, Some, None, find}
+use Rattle.std.proofs.Common.{get_or, slice_get, suc, ◌∷◌, inl, inr, refl, sym, ap, subst}
+use Rattle.pg_span.proofs.Common.{All-get_or, slice_get-get_or, slice_get_within, All, and_parts}
+use Rattle.pg_span.proofs.Common.{false≢true, cases_Bool, Coded-set, coded_ℕ, coded_bool, FinSet}
+use Rattle.pg_span.proofs.Common.{nat_cmp, is_same_side, Side, X, Y, edge_count, Position, IsPlace}
+use Rattle.pg_span.proofs.Common.{AreParts, AreJoiningTrees, IsFirst}
 use Rattle.std.proofs.Math.Logic.{∥∥₁_elim, ∥∥₁_map}
 use Rattle.std.proofs.Math.Bridge.{le_prop}
 use Rattle.pg_base.specs.contracts.side.Side as side_row

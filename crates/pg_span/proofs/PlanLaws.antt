@@ -1,7 +1,10 @@
 -- The moves that the code makes are those of the definitions.
 use Rattle.std.proofs.Common.{◌≡◌, ℕ, ◌≤◌, Option, Some, None, inl, inr, sym, ap, ◌∙◌, subst, arith}
 use Rattle.std.specs.Prelude.{unwrap_or, ◌&&◌, List}
-use Rattle.pg_span.proofs.Common.{cases_Bool, FinSet, contains, remove, nat_cmp, Graph, edge_count, first_end_of, second_end_of, joins_in, Position, is_free, differ, lowest_free_edge, with_set, answered_edge, short_edge, claimed, trees_answer, Answered, short_reply, find_below-cases}
+use Rattle.pg_span.proofs.Common.{cases_Bool, FinSet, contains, remove, nat_cmp, Graph, edge_count}
+use Rattle.pg_span.proofs.Common.{first_end_of, second_end_of, joins_in, Position, is_free, differ}
+use Rattle.pg_span.proofs.Common.{lowest_free_edge, with_set, answered_edge, short_edge, claimed}
+use Rattle.pg_span.proofs.Common.{trees_answer, Answered, short_reply, find_below-cases}
 use Rattle.pg_span.specs.declared.cert.SpanBody.{SpanBody}
 use Rattle.pg_span.specs.declared.cert.SpanBody.TheVariants.{Trees, Parts}
 use Rattle.pg_span.specs.declared.plan.TreePlan.{TreePlan}

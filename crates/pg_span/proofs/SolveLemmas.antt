@@ -1,12 +1,25 @@
 -- What two settled bases of a connectivity game's free edges show.
-use Rattle.std.proofs.Common.{◌≡◌, ◌≢◌, ℕ, ◌<◌, ◌≤◌, ◌+◌, zero, suc, Bool, true, false, not, eqb, length, List, [], ◌∷◌, Some, None, inl, inr, refl, sym, ◌∙◌, subst, arith}
+use Rattle.std.proofs.Common.{◌≡◌, ◌≢◌, ℕ, ◌<◌, ◌≤◌, ◌+◌, zero, suc, Bool, true, false, not, eqb}
+use Rattle.std.proofs.Common.{length, List, [], ◌∷◌, Some, None, inl, inr, refl, sym, ◌∙◌, subst}
+use Rattle.std.proofs.Common.{arith}
 use Rattle.std.specs.Prelude.{slice_index, Option, IfSome, IfNone, is_some}
-use Rattle.pg_span.proofs.Common.{All, All-from_get_or, IsLeastFrom, both_ways, and_parts, and_from, or_cases, or_left, false_from_ne_true, not-true, not_from_false, eqb-false, eqb-true, true_from_ne_false, FinSet, contains, nat_cmp, minus, either, outside, both, count, IsBelow, Side, X, Y, below_parts, below_from, same_sets, either_cases, either_left, either_right, find_below, minus_from, count_minus, both_parts, both_from, outside_parts, outside_from, Graph, edge_count, first_end_of, second_end_of, IsJoinedIn, AreLabels, IsBase, ends_in_range, joins_in-complete, loops_after, joins_sound, AreBases, elements_of, is_free, joins_all, spare}
-use Rattle.pg_switch.proofs.Settled.{AreParts-shared, AreParts-apart, joined_by_base, AreJoiningTrees-none, AreJoiningTrees-one}
+use Rattle.pg_span.proofs.Common.{All, All-from_get_or, IsLeastFrom, both_ways, and_parts, and_from}
+use Rattle.pg_span.proofs.Common.{or_cases, or_left, false_from_ne_true, not-true, not_from_false}
+use Rattle.pg_span.proofs.Common.{eqb-false, eqb-true, true_from_ne_false, FinSet, contains}
+use Rattle.pg_span.proofs.Common.{nat_cmp, minus, either, outside, both, count, IsBelow, Side, X, Y}
+use Rattle.pg_span.proofs.Common.{below_parts, below_from, same_sets, either_cases, either_left}
+use Rattle.pg_span.proofs.Common.{either_right, find_below, minus_from, count_minus, both_parts}
+use Rattle.pg_span.proofs.Common.{both_from, outside_parts, outside_from, Graph, edge_count}
+use Rattle.pg_span.proofs.Common.{first_end_of, second_end_of, IsJoinedIn, AreLabels, IsBase}
+use Rattle.pg_span.proofs.Common.{ends_in_range, joins_in-complete, loops_after, joins_sound}
+use Rattle.pg_span.proofs.Common.{AreBases, elements_of, is_free, joins_all, spare}
+use Rattle.pg_switch.proofs.Settled.{AreParts-shared, AreParts-apart, joined_by_base}
+use Rattle.pg_switch.proofs.Settled.{AreJoiningTrees-none, AreJoiningTrees-one}
 use Rattle.pg_span.specs.declared.game.SpanGame.{SpanGame}
 use Rattle.pg_span.specs.Game.{marks_at}
 use Rattle.pg_span.specs.FreeEdges.{free_matroid}
-use Rattle.pg_span.specs.Solved.{ArePartsBelow, HavePartsBelow, SolvedIsSmall, claims_of, parts_claim, trees_claim}
+use Rattle.pg_span.specs.Solved.{ArePartsBelow, HavePartsBelow, SolvedIsSmall, claims_of}
+use Rattle.pg_span.specs.Solved.{parts_claim, trees_claim}
 use Rattle.pg_span.specs.Valid.{AreTreesOfGame, ArePartsOfGame}
 use Rattle.pg_span.specs.declared.cert.SpanClaim.{SpanClaim}
 use Rattle.pg_span.specs.declared.solved.Solved.{Solved}

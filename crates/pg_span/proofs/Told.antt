@@ -1,8 +1,10 @@
 -- What a certificate tells: one flaw at most where it isn't valid, and the class where it has both
 -- winners' claims.
-use Rattle.std.proofs.Common.{◌≡◌, ◌≢◌, ℕ, ◌<◌, Some, List, [], ◌∷◌, inl, inr, refl, sym, ◌∙◌, subst, subst₂, arith}
+use Rattle.std.proofs.Common.{◌≡◌, ◌≢◌, ℕ, ◌<◌, Some, List, [], ◌∷◌, inl, inr, refl, sym, ◌∙◌}
+use Rattle.std.proofs.Common.{subst, subst₂, arith}
 use Rattle.std.specs.Prelude.{length, slice_get, get_or}
-use Rattle.pg_span.proofs.Common.{All, cases_order, slice_get-get_or, slice_get_within, Win, Side, X, Y, ForcesBy, Position}
+use Rattle.pg_span.proofs.Common.{All, cases_order, slice_get-get_or, slice_get_within, Win, Side}
+use Rattle.pg_span.proofs.Common.{X, Y, ForcesBy, Position}
 use Rattle.pg_base.proofs.Stands.{same_some}
 use Rattle.pg_span.specs.Game.{marks_at, span_class, span_rules_of}
 use Rattle.pg_span.specs.Solved.{AreDueClaims, named, winner}

@@ -1,8 +1,18 @@
 -- Two sets of edges each of which joins every two vertices with X's edges: what the answer to a
 -- lost edge keeps.
-use Rattle.std.proofs.Common.{◌≡◌, ◌≢◌, ℕ, ◌<◌, ◌≤◌, Bool, true, false, Option, inl, inr, sym, ap, ◌∙◌, subst, subst₂, arith}
+use Rattle.std.proofs.Common.{◌≡◌, ◌≢◌, ℕ, ◌<◌, ◌≤◌, Bool, true, false, Option, inl, inr, sym, ap}
+use Rattle.std.proofs.Common.{◌∙◌, subst, subst₂, arith}
 use Rattle.std.specs.Prelude.{unwrap_or}
-use Rattle.pg_span.proofs.Common.{cases_Bool, cases_eq, both_ways, false_from_ne_true, FinSet, contains, remove, nat_cmp, plus, minus, either, IsWithin, AreBelow, same_sets, contains-remove_minus, minus_parts, minus_from, plus_new, either_cases, either_left, sets, Graph, IsGraph, edge_count, spans_in, first_end_of, second_end_of, IsJoinedIn, AreEdges, Crosses, crosses-unspanned, uncrossed_joins, IsSpan-graph, spans_in-sound, spans_in-complete, ends_in_range, joined_on, joined_back, joined_by, joined_edge, joined_more, Position, IsFreeEdge, with_set, lowest_free_edge, short_edge, short_reply, crossing-cases, lowest_free-free}
+use Rattle.pg_span.proofs.Common.{cases_Bool, cases_eq, both_ways, false_from_ne_true, FinSet}
+use Rattle.pg_span.proofs.Common.{contains, remove, nat_cmp, plus, minus, either, IsWithin}
+use Rattle.pg_span.proofs.Common.{AreBelow, same_sets, contains-remove_minus, minus_parts}
+use Rattle.pg_span.proofs.Common.{minus_from, plus_new, either_cases, either_left, sets, Graph}
+use Rattle.pg_span.proofs.Common.{IsGraph, edge_count, spans_in, first_end_of, second_end_of}
+use Rattle.pg_span.proofs.Common.{IsJoinedIn, AreEdges, Crosses, crosses-unspanned, uncrossed_joins}
+use Rattle.pg_span.proofs.Common.{IsSpan-graph, spans_in-sound, spans_in-complete, ends_in_range}
+use Rattle.pg_span.proofs.Common.{joined_on, joined_back, joined_by, joined_edge, joined_more}
+use Rattle.pg_span.proofs.Common.{Position, IsFreeEdge, with_set, lowest_free_edge, short_edge}
+use Rattle.pg_span.proofs.Common.{short_reply, crossing-cases, lowest_free-free}
 use Rattle.pg_graph.proofs.Swap.{spans_trade}
 use Rattle.pg_span.proofs.Connects.{JoinsAll}
 use Rattle.pg_switch.proofs.EdgeSets.{with_set-edges}

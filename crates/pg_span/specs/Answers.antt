@@ -1,7 +1,8 @@
 -- A player's own moves in a connectivity game: by trees as Short's in the switching game, and by
 -- parts.
 use Rattle.std.specs.Prelude.{ℕ, List, ◌&&◌, Option, Some, None, find, unwrap_or, slice_index}
-use Rattle.pg_span.specs.Prelude.{range_with_len, Graph, edge_count, first_end_of, second_end_of, Position, is_free, lowest_free_edge, trees_answer, crosses}
+use Rattle.pg_span.specs.Prelude.{range_with_len, Graph, edge_count, first_end_of, second_end_of}
+use Rattle.pg_span.specs.Prelude.{Position, is_free, lowest_free_edge, trees_answer, crosses}
 use Rattle.pg_span.specs.declared.cert.SpanBody.{SpanBody}
 use Rattle.pg_span.specs.declared.cert.SpanBody.TheVariants.{Trees, Parts}
 

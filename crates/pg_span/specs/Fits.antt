@@ -1,6 +1,7 @@
 -- The limits of a connectivity game.
 use Rattle.std.specs.Prelude.{◌≡◌, ◌≤◌}
-use Rattle.pg_span.specs.Prelude.{FinSet, nat_cmp, AreBelow, ShareNone, MAX_VERTICES, IsGraph, edge_count, Graph}
+use Rattle.pg_span.specs.Prelude.{FinSet, nat_cmp, AreBelow, ShareNone, MAX_VERTICES, IsGraph}
+use Rattle.pg_span.specs.Prelude.{edge_count, Graph}
 
 -- a multigraph within the limits, with the terminals 0 and 1, and sides with different edges
 pub record AreSpanParts (h : Graph) (x y : FinSet nat_cmp) : Type 0 where

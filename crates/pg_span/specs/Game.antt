@@ -1,6 +1,7 @@
 -- Connectivity games by their rules: values, and the class.
 use Rattle.std.specs.Prelude.{Option}
-use Rattle.pg_span.specs.Prelude.{Side, X, Y, edge_count, first_end_of, second_end_of, Rules, value_by, Position, connectivity_rules}
+use Rattle.pg_span.specs.Prelude.{Side, X, Y, edge_count, first_end_of, second_end_of, Rules}
+use Rattle.pg_span.specs.Prelude.{value_by, Position, connectivity_rules}
 use Rattle.pg_game.specs.Class.{Class, class_by}
 use Rattle.pg_span.specs.declared.game.SpanGame.{SpanGame}
 

@@ -1,6 +1,7 @@
 -- What a judge of a connectivity game knows.
 use Rattle.std.specs.Prelude.{◌≡◌, ℕ, Bool, true}
-use Rattle.pg_span.specs.Prelude.{Graph, edge_count, first_end_of, second_end_of, IsMadeFor, joins_all}
+use Rattle.pg_span.specs.Prelude.{Graph, edge_count, first_end_of, second_end_of, IsMadeFor}
+use Rattle.pg_span.specs.Prelude.{joins_all}
 use Rattle.pg_span.specs.declared.game.SpanGame.{SpanGame}
 use Rattle.pg_span.specs.declared.judge.SpanJudge.{SpanJudge}
 

@@ -1,6 +1,8 @@
 -- What is seen of a player of a connectivity game, and what it does.
-use Rattle.std.specs.Prelude.{◌≡◌, ◌⊎◌, ℕ, ◌<◌, Bool, true, false, ◌&&◌, List, Option, Some, None, Ok, find}
-use Rattle.pg_span.specs.Prelude.{other, is_same_side, Win, Side, edge_count, Position, is_free, judged_by, moved, IsPlayBy, played_by, ForcesBy, IsPlace}
+use Rattle.std.specs.Prelude.{◌≡◌, ◌⊎◌, ℕ, ◌<◌, Bool, true, false, ◌&&◌, List, Option, Some, None}
+use Rattle.std.specs.Prelude.{Ok, find}
+use Rattle.pg_span.specs.Prelude.{other, is_same_side, Win, Side, edge_count, Position, is_free}
+use Rattle.pg_span.specs.Prelude.{judged_by, moved, IsPlayBy, played_by, ForcesBy, IsPlace}
 use Rattle.pg_span.specs.declared.cert.SpanBody.{SpanBody}
 use Rattle.pg_span.specs.declared.cert.SpanCert.{SpanCert}
 use Rattle.pg_span.specs.declared.cert.SpanClaim.{SpanClaim}

@@ -1,6 +1,7 @@
 -- What a player keeps of its fields.
 use Rattle.std.specs.Prelude.{◌≡◌, ◌<◌, ℕ, true, false, Option, Some, None}
-use Rattle.pg_span.specs.Prelude.{other, Score, Side, edge_count, Position, ending_by, is_free, moved, IsPlace}
+use Rattle.pg_span.specs.Prelude.{other, Score, Side, edge_count, Position, ending_by, is_free}
+use Rattle.pg_span.specs.Prelude.{moved, IsPlace}
 use Rattle.pg_span.specs.declared.cert.SpanBody.{SpanBody}
 use Rattle.pg_span.specs.declared.game.SpanGame.{SpanGame}
 use Rattle.pg_span.specs.declared.judge.SpanJudge.{SpanJudge}

@@ -14,19 +14,23 @@ unfoldable pub use Rattle.pg_exchange.specs.Forest.{elements_of}
 pub use Rattle.pg_exchange.specs.Matroid.{Matroid}
 pub use Rattle.pg_game.specs.Judging.{ending_by, judged_by}
 pub use Rattle.pg_game.specs.Position.{is_free}
-pub use Rattle.pg_game.specs.Rules.{ForcesBy, IsEnding, IsPlayBy, Rules, moved, played_by, reaches, value_by}
-pub use Rattle.pg_game.specs.Trees.{Answered, IsFreeEdge, answered_edge, claimed, differ, lowest_free_edge, short_edge, with_set}
+pub use Rattle.pg_game.specs.Rules.{ForcesBy, IsEnding, IsPlayBy, Rules, moved, played_by, reaches}
+pub use Rattle.pg_game.specs.Rules.{value_by}
+pub use Rattle.pg_game.specs.Trees.{Answered, IsFreeEdge, answered_edge, claimed, differ}
+pub use Rattle.pg_game.specs.Trees.{lowest_free_edge, short_edge, with_set}
 unfoldable pub use Rattle.pg_game.specs.Trees.{trees_answer}
 pub use Rattle.pg_game.specs.declared.bounds.TheConstants.{MAX_VERTICES}
 pub use Rattle.pg_game.specs.declared.position.Position.{Position}
-pub use Rattle.pg_graph.specs.Graph.{IsGraph, IsJoinedIn, edge_count, first_end_of, joins_in, second_end_of, spans_in}
+pub use Rattle.pg_graph.specs.Graph.{IsGraph, IsJoinedIn, edge_count, first_end_of, joins_in}
+pub use Rattle.pg_graph.specs.Graph.{second_end_of, spans_in}
 pub use Rattle.pg_graph.specs.Joiner.{AreEdges, Crosses, IsLowest, IsMadeFor, Room}
 pub use Rattle.pg_graph.specs.Labels.{AreLabels}
 pub use Rattle.pg_graph.specs.Span.{IsBase}
 pub use Rattle.pg_graph.specs.declared.graph.Graph.{Graph}
 pub use Rattle.pg_switch.specs.Claims.{IsPlace, kept}
 pub use Rattle.pg_switch.specs.Replies.{short_reply}
-pub use Rattle.pg_switch.specs.Span.{AreJoiningTrees, AreParts, IsFirst, connectivity_rules, crosses, crossing, joins_all, spare, with_first}
+pub use Rattle.pg_switch.specs.Span.{AreJoiningTrees, AreParts, IsFirst, connectivity_rules}
+pub use Rattle.pg_switch.specs.Span.{crosses, crossing, joins_all, spare, with_first}
 unfoldable pub use Rattle.pg_switch.specs.Span.{image, joins_below, joins_pairs}
 pub use Rattle.std.specs.Coded.{Coded-set, coded_bool, coded_ℕ}
 pub use Rattle.std.specs.FinSet.{FinSet, contains, insert, remove}

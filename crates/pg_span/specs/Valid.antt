@@ -1,6 +1,7 @@
 -- When certificates of connectivity games are valid.
 use Rattle.std.specs.Prelude.{◌≡◌, ◌<◌, ℕ, List, length, Option, Some, slice_get, slice_index}
-use Rattle.pg_span.specs.Prelude.{All, FinSet, nat_cmp, Side, X, Y, edge_count, first_end_of, second_end_of, Position, AreParts, AreJoiningTrees}
+use Rattle.pg_span.specs.Prelude.{All, FinSet, nat_cmp, Side, X, Y, edge_count, first_end_of}
+use Rattle.pg_span.specs.Prelude.{second_end_of, Position, AreParts, AreJoiningTrees}
 use Rattle.pg_span.specs.Game.{marks_at}
 use Rattle.pg_span.specs.declared.cert.SpanBody.{SpanBody}
 use Rattle.pg_span.specs.declared.cert.SpanBody.TheVariants.{Trees, Parts}

@@ -1,7 +1,8 @@
 -- Edges join every two vertices where walks do.
 use Rattle.std.proofs.Common.{◌≡◌, ℕ, ◌<◌, ◌≤◌, zero, suc, Bool, true, refl, ◌∙◌, arith}
 use Rattle.std.specs.Prelude.{◌↔◌, IsTrue}
-use Rattle.pg_switch.proofs.Common.{and_from, below, joins, joins-below, joins_sound, joins_complete}
+use Rattle.pg_switch.proofs.Common.{and_from, below, joins, joins-below, joins_sound}
+use Rattle.pg_switch.proofs.Common.{joins_complete}
 use Rattle.pg_switch.specs.Span.{joins_below, joins_pairs, joins_all, AreAllJoined}
 use Rattle.pg_switch.proofs.PartLemmas.{joined_pairs}
 

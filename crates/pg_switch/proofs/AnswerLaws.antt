@@ -1,16 +1,32 @@
 -- The answers by trees and by cuts are free edges, and the sets hold after them.
-use Rattle.std.proofs.Common.{◌≡◌, ◌≢◌, ℕ, ◌<◌, ◌≤◌, suc, Bool, true, false, Option, Some, None, inl, inr, sym, ap, ◌∙◌, subst, subst₂, arith}
+use Rattle.std.proofs.Common.{◌≡◌, ◌≢◌, ℕ, ◌<◌, ◌≤◌, suc, Bool, true, false, Option, Some, None}
+use Rattle.std.proofs.Common.{inl, inr, sym, ap, ◌∙◌, subst, subst₂, arith}
 use Rattle.std.specs.Prelude.{unwrap_or}
-use Rattle.pg_switch.proofs.Common.{cases_Bool, cases_eq, both_ways, false_from_ne_true, FinSet, contains, remove, nat_cmp, plus, minus, either, outside, Side, X, Y, other, same_sets, contains-remove_minus, minus_parts, minus_from, Graph, edge_count, spans_in, first_end_of, second_end_of, joins_in, AreEdges, Crosses, IsTrees, IsCuts, IsSpan-graph, spans_in-joins, IsTrees-other, IsTrees-claimed, Field, Game, Position, field_points, terminals_joined, AreBelow, point_count, is_over, after, IsPosition, IsFreeEdge, AreFreeEdges, AreFreeWithE, AreTrees, AreCuts, TreesHold, TreesHoldOn, CutsHold, CutsHoldOn, with_set, without_set, lowest_free_edge, answered_edge, short_edge, cut_edge, free-stays}
+use Rattle.pg_switch.proofs.Common.{cases_Bool, cases_eq, both_ways, false_from_ne_true, FinSet}
+use Rattle.pg_switch.proofs.Common.{contains, remove, nat_cmp, plus, minus, either, outside, Side}
+use Rattle.pg_switch.proofs.Common.{X, Y, other, same_sets, contains-remove_minus, minus_parts}
+use Rattle.pg_switch.proofs.Common.{minus_from, Graph, edge_count, spans_in, first_end_of}
+use Rattle.pg_switch.proofs.Common.{second_end_of, joins_in, AreEdges, Crosses, IsTrees, IsCuts}
+use Rattle.pg_switch.proofs.Common.{IsSpan-graph, spans_in-joins, IsTrees-other, IsTrees-claimed}
+use Rattle.pg_switch.proofs.Common.{Field, Game, Position, field_points, terminals_joined, AreBelow}
+use Rattle.pg_switch.proofs.Common.{point_count, is_over, after, IsPosition, IsFreeEdge}
+use Rattle.pg_switch.proofs.Common.{AreFreeEdges, AreFreeWithE, AreTrees, AreCuts, TreesHold}
+use Rattle.pg_switch.proofs.Common.{TreesHoldOn, CutsHold, CutsHoldOn, with_set, without_set}
+use Rattle.pg_switch.proofs.Common.{lowest_free_edge, answered_edge, short_edge, cut_edge}
+use Rattle.pg_switch.proofs.Common.{free-stays}
 use Rattle.pg_graph.proofs.TreeAnswers.{IsTrees-crossed, IsTrees-uncrossed}
-use Rattle.pg_graph.proofs.Cuts.{IsCuts-other, IsCuts-claimed, IsCuts-dropped, IsCuts-answered, find_parting}
+use Rattle.pg_graph.proofs.Cuts.{IsCuts-other, IsCuts-claimed, IsCuts-dropped, IsCuts-answered}
+use Rattle.pg_graph.proofs.Cuts.{find_parting}
 use Rattle.pg_game.specs.declared.field.Field.TheVariants.{Graph as OnGraph}
 use Rattle.pg_game.proofs.Moves.{side≢other}
 use Rattle.pg_game.proofs.Strategy.{free_point}
 use Rattle.pg_switch.specs.Replies.{short_reply, cut_reply, HeldUntil}
 use Rattle.pg_switch.proofs.ClaimLaws.{y-next_x, x-plus, x-same, kept-same, kept-minus}
-use Rattle.pg_switch.proofs.EdgeSets.{left_edges, left_edges-below, with_set-edges, IsTrees-from, AreTrees-from, IsCuts-from, AreCuts-from, without-agree, minus-agree}
-use Rattle.pg_switch.proofs.Finding.{crossing-cases, parting-cases, parting-apart, joins-agree, lowest_free-free}
+use Rattle.pg_switch.proofs.EdgeSets.{left_edges, left_edges-below, with_set-edges, IsTrees-from}
+use Rattle.pg_switch.proofs.EdgeSets.{AreTrees-from, IsCuts-from, AreCuts-from, without-agree}
+use Rattle.pg_switch.proofs.EdgeSets.{minus-agree}
+use Rattle.pg_switch.proofs.Finding.{crossing-cases, parting-cases, parting-apart, joins-agree}
+use Rattle.pg_switch.proofs.Finding.{lowest_free-free}
 
 -- a number that isn't a member takes nothing away
 minus_absent : (a : ℕ → Bool) (x : ℕ) → a x ≡ false → minus a x ≡ a

@@ -1,6 +1,15 @@
 -- Games in which X wants its points to pass a test: positions, and answers that force a win.
-use Rattle.std.proofs.Common.{◌≡◌, ℕ, ◌<◌, Bool, true, false, not, ◌||◌, ◌⊎◌, cond, inl, inr, refl, sym, ap, ◌∙◌, subst}
-use Rattle.pg_switch.proofs.Common.{cases_Bool, both_ways, and_parts, and_from, false_from_ne_true, true_from_ne_false, not-true, not_from_false, or_left, or_right, eq-eqb, ne_eqb, FinSet, contains, insert, nat_cmp, plus, minus, below, IsWithin, Win, XWins, YWins, Side, X, Y, other, below_parts, below_from, same_sets, contains-insert_plus, insert-cases, insert-old, insert-self, minus_parts, minus_from, Position, is_free, claims_in_turn, moved, reaches, ForcesBy, IsEnding, KeepsBy, is_free-moved, some_free, ForcesBy-from_keeps, side≢other, side_cases, other_other}
+use Rattle.std.proofs.Common.{◌≡◌, ℕ, ◌<◌, Bool, true, false, not, ◌||◌, ◌⊎◌, cond, inl, inr, refl}
+use Rattle.std.proofs.Common.{sym, ap, ◌∙◌, subst}
+use Rattle.pg_switch.proofs.Common.{cases_Bool, both_ways, and_parts, and_from, false_from_ne_true}
+use Rattle.pg_switch.proofs.Common.{true_from_ne_false, not-true, not_from_false, or_left, or_right}
+use Rattle.pg_switch.proofs.Common.{eq-eqb, ne_eqb, FinSet, contains, insert, nat_cmp, plus, minus}
+use Rattle.pg_switch.proofs.Common.{below, IsWithin, Win, XWins, YWins, Side, X, Y, other}
+use Rattle.pg_switch.proofs.Common.{below_parts, below_from, same_sets, contains-insert_plus}
+use Rattle.pg_switch.proofs.Common.{insert-cases, insert-old, insert-self, minus_parts, minus_from}
+use Rattle.pg_switch.proofs.Common.{Position, is_free, claims_in_turn, moved, reaches, ForcesBy}
+use Rattle.pg_switch.proofs.Common.{IsEnding, KeepsBy, is_free-moved, some_free}
+use Rattle.pg_switch.proofs.Common.{ForcesBy-from_keeps, side≢other, side_cases, other_other}
 use Rattle.pg_switch.specs.Claims.{kept, claim_rules, IsMonotone, IsPlace}
 
 -- ---- positions after a move

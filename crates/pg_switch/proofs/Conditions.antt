@@ -1,7 +1,11 @@
 -- The tests of trees and cuts say what the definitions say.
 use Rattle.std.proofs.Common.{◌≡◌, ℕ, Bool, true, false, inl, inr, sym, ap, ◌∙◌, subst, arith}
 use Rattle.std.specs.Prelude.{◌↔◌, IsTrue}
-use Rattle.pg_switch.proofs.Common.{both_ways, FinSet, contains, insert, union, difference, nat_cmp, outside, contains-union_either, contains-difference_outside, insert-cases, insert-old, insert-self, outside_parts, Graph, edge_count, JoinsEndsOf, IsBridge, AreEdges, Position, with_set, without_set}
+use Rattle.pg_switch.proofs.Common.{both_ways, FinSet, contains, insert, union, difference, nat_cmp}
+use Rattle.pg_switch.proofs.Common.{outside, contains-union_either, contains-difference_outside}
+use Rattle.pg_switch.proofs.Common.{insert-cases, insert-old, insert-self, outside_parts, Graph}
+use Rattle.pg_switch.proofs.Common.{edge_count, JoinsEndsOf, IsBridge, AreEdges, Position, with_set}
+use Rattle.pg_switch.proofs.Common.{without_set}
 use Rattle.pg_switch.specs.Parts.{JoinsOther, BridgesOther}
 use Rattle.pg_switch.proofs.EdgeSets.{left_edges, left_edges-below, bridge-same, without-agree}
 

@@ -1,6 +1,14 @@
 -- Edges that are left at a position, and sets of edges that are trees or cuts.
-use Rattle.std.proofs.Common.{◌≡◌, ℕ, ◌<◌, ◌≤◌, suc, Bool, true, false, not, ◌&&◌, inl, inr, refl, sym, ap, ◌∙◌, subst, arith}
-use Rattle.pg_switch.proofs.Common.{both_ways, false_from_ne_true, not-true, not_from_false, FinSet, contains, nat_cmp, minus, outside, IsWithin, IsBelow, Side, X, Y, below_parts, below_from, either_cases, Graph, edge_count, first_end_of, second_end_of, spans_in, IsBridge, AreEdges, IsTrees, IsCuts, edge_spans, joins_same, spans_in-sound, spans_in-complete, unspanned-from, unspanned-apart, Position, AreBelow, AreFreeEdges, AreFreeWithE, with_set, without_set, AreTrees, AreCuts, free-of}
+use Rattle.std.proofs.Common.{◌≡◌, ℕ, ◌<◌, ◌≤◌, suc, Bool, true, false, not, ◌&&◌, inl, inr, refl}
+use Rattle.std.proofs.Common.{sym, ap, ◌∙◌, subst, arith}
+use Rattle.pg_switch.proofs.Common.{both_ways, false_from_ne_true, not-true, not_from_false, FinSet}
+use Rattle.pg_switch.proofs.Common.{contains, nat_cmp, minus, outside, IsWithin, IsBelow, Side, X}
+use Rattle.pg_switch.proofs.Common.{Y, below_parts, below_from, either_cases, Graph, edge_count}
+use Rattle.pg_switch.proofs.Common.{first_end_of, second_end_of, spans_in, IsBridge, AreEdges}
+use Rattle.pg_switch.proofs.Common.{IsTrees, IsCuts, edge_spans, joins_same, spans_in-sound}
+use Rattle.pg_switch.proofs.Common.{spans_in-complete, unspanned-from, unspanned-apart, Position}
+use Rattle.pg_switch.proofs.Common.{AreBelow, AreFreeEdges, AreFreeWithE, with_set, without_set}
+use Rattle.pg_switch.proofs.Common.{AreTrees, AreCuts, free-of}
 use Rattle.pg_switch.specs.Claims.{kept}
 
 -- the edges that aren't Y's, with e

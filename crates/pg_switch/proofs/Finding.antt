@@ -1,7 +1,16 @@
 -- The lowest edges that pass a test, as they are found and as they are said.
-use Rattle.std.proofs.Common.{◌≡◌, ℕ, ◌<◌, ◌≤◌, ◌+◌, zero, suc, Bool, true, false, not, ◌&&◌, ◌||◌, ◌⊎◌, Option, Some, None, inl, inr, refl, sym, ap, ◌∙◌, subst, arith}
+use Rattle.std.proofs.Common.{◌≡◌, ℕ, ◌<◌, ◌≤◌, ◌+◌, zero, suc, Bool, true, false, not, ◌&&◌, ◌||◌}
+use Rattle.std.proofs.Common.{◌⊎◌, Option, Some, None, inl, inr, refl, sym, ap, ◌∙◌, subst, arith}
 use Rattle.std.specs.Prelude.{IfSome, IfNone, unwrap_or}
-use Rattle.pg_switch.proofs.Common.{cases_Bool, cases_eq, both_ways, and_parts, and_from, false_from_ne_true, true_from_ne_false, not-true, not_from_false, find, range_with_len, FinSet, contains, remove, nat_cmp, minus, remove-self, remove-other, remove-old, minus_self, minus_same, Graph, edge_count, first_end_of, second_end_of, joins_in, AreEdges, Crosses, crosses, Parts, parts, IsLowest, joins, joins_same, joins_in-complete, Position, is_free, IsFreeEdge, differ, lowest_crossing, lowest_parting, lowest_free_edge}
+use Rattle.pg_switch.proofs.Common.{cases_Bool, cases_eq, both_ways, and_parts, and_from}
+use Rattle.pg_switch.proofs.Common.{false_from_ne_true, true_from_ne_false, not-true}
+use Rattle.pg_switch.proofs.Common.{not_from_false, find, range_with_len, FinSet, contains, remove}
+use Rattle.pg_switch.proofs.Common.{nat_cmp, minus, remove-self, remove-other, remove-old}
+use Rattle.pg_switch.proofs.Common.{minus_self, minus_same, Graph, edge_count, first_end_of}
+use Rattle.pg_switch.proofs.Common.{second_end_of, joins_in, AreEdges, Crosses, crosses, Parts}
+use Rattle.pg_switch.proofs.Common.{parts, IsLowest, joins, joins_same, joins_in-complete, Position}
+use Rattle.pg_switch.proofs.Common.{is_free, IsFreeEdge, differ, lowest_crossing, lowest_parting}
+use Rattle.pg_switch.proofs.Common.{lowest_free_edge}
 use Rattle.pg_graph.proofs.EdgeTests.{crosses-sound, crosses-complete, parts-sound, parts-complete}
 use Rattle.pg_game.proofs.Lowest.{first_from, none_from}
 use Rattle.pg_switch.proofs.EdgeSets.{minus-agree}

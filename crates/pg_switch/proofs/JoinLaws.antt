@@ -1,10 +1,22 @@
 -- Trees force Maker's win in a connectivity game.
-use Rattle.std.proofs.Common.{◌≡◌, ℕ, ◌+◌, ◌-◌, ◌<◌, ◌≤◌, Bool, true, false, not, ◌&&◌, ltb, cond, List, [], ◌∷◌, Some, None, inl, inr, sym, ap, ◌∙◌, subst, subst₂, arith}
+use Rattle.std.proofs.Common.{◌≡◌, ℕ, ◌+◌, ◌-◌, ◌<◌, ◌≤◌, Bool, true, false, not, ◌&&◌, ltb, cond}
+use Rattle.std.proofs.Common.{List, [], ◌∷◌, Some, None, inl, inr, sym, ap, ◌∙◌, subst, subst₂}
+use Rattle.std.proofs.Common.{arith}
 use Rattle.std.specs.Prelude.{Option}
-use Rattle.pg_switch.proofs.Common.{cases_Bool, cases_lt, both_ways, and_parts, and_from, not-true, not_from_false, cond-true, cond-false, lt-ltb, le-ltb, ltb-true, FinSet, contains, insert, nat_cmp, plus, below, either, IsWithin, IsBelow, Win, X, Y, other, below_parts, below_from, contains-insert_plus, minus_from, either_cases, plus_cases, IsSpan, IsTrees, IsWalk, IsJoined, joins, edge_spans, IsSpan-edges, edge_spans_sound, edge_spans_complete, joined_on, joined_back, joined_more, joins_sound, joins_complete, joins-below, Position, is_free, ForcesBy, ForcesBy-over, ForcesBy-move, side≢other}
+use Rattle.pg_switch.proofs.Common.{cases_Bool, cases_lt, both_ways, and_parts, and_from, not-true}
+use Rattle.pg_switch.proofs.Common.{not_from_false, cond-true, cond-false, lt-ltb, le-ltb, ltb-true}
+use Rattle.pg_switch.proofs.Common.{FinSet, contains, insert, nat_cmp, plus, below, either}
+use Rattle.pg_switch.proofs.Common.{IsWithin, IsBelow, Win, X, Y, other, below_parts, below_from}
+use Rattle.pg_switch.proofs.Common.{contains-insert_plus, minus_from, either_cases, plus_cases}
+use Rattle.pg_switch.proofs.Common.{IsSpan, IsTrees, IsWalk, IsJoined, joins, edge_spans}
+use Rattle.pg_switch.proofs.Common.{IsSpan-edges, edge_spans_sound, edge_spans_complete, joined_on}
+use Rattle.pg_switch.proofs.Common.{joined_back, joined_more, joins_sound, joins_complete}
+use Rattle.pg_switch.proofs.Common.{joins-below, Position, is_free, ForcesBy, ForcesBy-over}
+use Rattle.pg_switch.proofs.Common.{ForcesBy-move, side≢other}
 use Rattle.pg_switch.specs.Claims.{kept, claim_rules, IsPlace}
 use Rattle.pg_switch.specs.Span.{joins_all, connectivity_rules, AreJoiningTrees}
-use Rattle.pg_switch.proofs.ClaimLaws.{next, turn-next, IsPlace-next, IsEnding-claims, free-next, x-plus, x-kept, free-kept, x_wins}
+use Rattle.pg_switch.proofs.ClaimLaws.{next, turn-next, IsPlace-next, IsEnding-claims, free-next}
+use Rattle.pg_switch.proofs.ClaimLaws.{x-plus, x-kept, free-kept, x_wins}
 use Rattle.pg_switch.proofs.TreeForces.{ForcesBy-targets}
 use Rattle.pg_switch.proofs.AllJoined.{joins_all-from}
 use Rattle.pg_switch.proofs.PartLemmas.{joined_pairs}

@@ -1,9 +1,17 @@
 -- Parts force Breaker's win in a connectivity game.
-use Rattle.std.proofs.Common.{◌≡◌, ◌≢◌, ℕ, ◌+◌, ◌*◌, ◌<◌, ◌≤◌, zero, suc, Bool, true, false, ◌&&◌, refl, inl, inr, sym, ap, subst, arith}
-use Rattle.pg_switch.proofs.Common.{cases_Bool, both_ways, and_parts, and_from, false_from_ne_true, not-true, contains, plus, minus, below, count, IsWithin, Win, Side, Y, below_parts, below_from, find_below, minus_parts, minus_from, plus_cases, plus_old, plus_new, count_le, count_plus, count_minus, one_if-false, joins, joins_more, Position, is_free, ForcesBy}
+use Rattle.std.proofs.Common.{◌≡◌, ◌≢◌, ℕ, ◌+◌, ◌*◌, ◌<◌, ◌≤◌, zero, suc, Bool, true, false, ◌&&◌}
+use Rattle.std.proofs.Common.{refl, inl, inr, sym, ap, subst, arith}
+use Rattle.pg_switch.proofs.Common.{cases_Bool, both_ways, and_parts, and_from, false_from_ne_true}
+use Rattle.pg_switch.proofs.Common.{not-true, contains, plus, minus, below, count, IsWithin, Win}
+use Rattle.pg_switch.proofs.Common.{Side, Y, below_parts, below_from, find_below, minus_parts}
+use Rattle.pg_switch.proofs.Common.{minus_from, plus_cases, plus_old, plus_new, count_le}
+use Rattle.pg_switch.proofs.Common.{count_plus, count_minus, one_if-false, joins, joins_more}
+use Rattle.pg_switch.proofs.Common.{Position, is_free, ForcesBy}
 use Rattle.pg_switch.specs.Claims.{IsMonotone, IsPlace}
-use Rattle.pg_switch.specs.Span.{joins_below, joins_pairs, joins_all, connectivity_rules, image, crosses, crossing, spare, AreParts}
-use Rattle.pg_switch.proofs.ClaimLaws.{CanAnswer, next, free-next, x-plus, x-same, y_wins, forces-ready}
+use Rattle.pg_switch.specs.Span.{joins_below, joins_pairs, joins_all, connectivity_rules, image}
+use Rattle.pg_switch.specs.Span.{crosses, crossing, spare, AreParts}
+use Rattle.pg_switch.proofs.ClaimLaws.{CanAnswer, next, free-next, x-plus, x-same, y_wins}
+use Rattle.pg_switch.proofs.ClaimLaws.{forces-ready}
 use Rattle.pg_switch.proofs.PartLemmas.{crossing_many}
 
 module _ (a b : ℕ → ℕ) (m : ℕ) (label : ℕ → ℕ) where

@@ -1,6 +1,12 @@
 -- How many edges it takes to join parts.
-use Rattle.std.proofs.Common.{◌≡◌, ◌≢◌, ℕ, ◌+◌, ◌<◌, ◌≤◌, zero, suc, Bool, true, ◌&&◌, eqb, cond, refl, inl, inr, sym, ap, ◌∙◌, subst, arith, List, [], ◌∷◌}
-use Rattle.pg_switch.proofs.Common.{cases_Bool, cases_eq, cases_lt, both_ways, and_parts, and_from, or_cases, or_left, or_right, not_from_false, eqb-true, eq-eqb, ne_eqb, cond-true, cond-false, minus, below, count, one_if, below_parts, minus_parts, minus_from, count_le, count_minus, one_if-true, one_if-false, one_if_le, IsWalk, joins, joins_sound, joins-below}
+use Rattle.std.proofs.Common.{◌≡◌, ◌≢◌, ℕ, ◌+◌, ◌<◌, ◌≤◌, zero, suc, Bool, true, ◌&&◌, eqb, cond}
+use Rattle.std.proofs.Common.{refl, inl, inr, sym, ap, ◌∙◌, subst, arith, List, [], ◌∷◌}
+use Rattle.pg_switch.proofs.Common.{cases_Bool, cases_eq, cases_lt, both_ways, and_parts, and_from}
+use Rattle.pg_switch.proofs.Common.{or_cases, or_left, or_right, not_from_false, eqb-true, eq-eqb}
+use Rattle.pg_switch.proofs.Common.{ne_eqb, cond-true, cond-false, minus, below, count, one_if}
+use Rattle.pg_switch.proofs.Common.{below_parts, minus_parts, minus_from, count_le, count_minus}
+use Rattle.pg_switch.proofs.Common.{one_if-true, one_if-false, one_if_le, IsWalk, joins}
+use Rattle.pg_switch.proofs.Common.{joins_sound, joins-below}
 use Rattle.pg_switch.specs.Span.{joins_below, joins_pairs, joins_all, image, crosses, crossing}
 
 -- ---- numbers of vertices

@@ -1,9 +1,16 @@
 -- What the plans' answers keep.
 use Rattle.std.proofs.Common.{◌≡◌, ℕ, ◌<◌, true, Option, sym, ap, ◌∙◌, subst, subst₂, arith}
-use Rattle.pg_switch.proofs.Common.{FinSet, contains, remove, nat_cmp, X, Y, Graph, Field, Game, Position, field_points, point_count, after, is_free, Answered, claimed, IsFreeEdge, TreesHold, TreesHoldOn, CutsHold, CutsHoldOn, answered_edge, short_edge, cut_edge, trees_answer, cuts_answer}
+use Rattle.pg_switch.proofs.Common.{FinSet, contains, remove, nat_cmp, X, Y, Graph, Field, Game}
+use Rattle.pg_switch.proofs.Common.{Position, field_points, point_count, after, is_free, Answered}
+use Rattle.pg_switch.proofs.Common.{claimed, IsFreeEdge, TreesHold, TreesHoldOn, CutsHold}
+use Rattle.pg_switch.proofs.Common.{CutsHoldOn, answered_edge, short_edge, cut_edge, trees_answer}
+use Rattle.pg_switch.proofs.Common.{cuts_answer}
 use Rattle.pg_game.specs.declared.field.Field.TheVariants.{Graph as OnGraph}
-use Rattle.pg_switch.specs.Replies.{IsSwitchingTurn, HeldUntil, LeavesHeld, IsTreesAnswer, IsCutsAnswer}
-use Rattle.pg_switch.proofs.AnswerLaws.{TreesDue, CutsDue, IsShortEdge, short-kept, short-holds, trees-due, IsCutEdge, cut-kept, cut-holds, cuts-due, some_free, left-without_e}
+use Rattle.pg_switch.specs.Replies.{IsSwitchingTurn, HeldUntil, LeavesHeld, IsTreesAnswer}
+use Rattle.pg_switch.specs.Replies.{IsCutsAnswer}
+use Rattle.pg_switch.proofs.AnswerLaws.{TreesDue, CutsDue, IsShortEdge, short-kept, short-holds}
+use Rattle.pg_switch.proofs.AnswerLaws.{trees-due, IsCutEdge, cut-kept, cut-holds, cuts-due}
+use Rattle.pg_switch.proofs.AnswerLaws.{some_free, left-without_e}
 
 -- a plan's answer is a free edge
 pub record IsClaim (g : Game) (p : Position) (y : ℕ) : Type 0 where

@@ -1,7 +1,12 @@
 -- The replies that the code finds are those of the definitions.
-use Rattle.std.proofs.Common.{◌≡◌, ℕ, Bool, true, Option, Some, None, refl, sym, ap, ap₂, ◌∙◌, subst}
+use Rattle.std.proofs.Common.{◌≡◌, ℕ, Bool, true, Option, Some, None, refl, sym, ap, ap₂, ◌∙◌}
+use Rattle.std.proofs.Common.{subst}
 use Rattle.std.specs.Prelude.{IfSome, IfNone, unwrap_or}
-use Rattle.pg_switch.proofs.Common.{FinSet, contains, remove, union, nat_cmp, outside, contains-union_either, remove-old, Graph, edge_count, first_end_of, second_end_of, AreBothEdges, AreEdges, Crosses, Parts, IsLowest, Position, AreBelow, lowest_crossing, lowest_parting, with_set, without_set}
+use Rattle.pg_switch.proofs.Common.{FinSet, contains, remove, union, nat_cmp, outside}
+use Rattle.pg_switch.proofs.Common.{contains-union_either, remove-old, Graph, edge_count}
+use Rattle.pg_switch.proofs.Common.{first_end_of, second_end_of, AreBothEdges, AreEdges, Crosses}
+use Rattle.pg_switch.proofs.Common.{Parts, IsLowest, Position, AreBelow, lowest_crossing}
+use Rattle.pg_switch.proofs.Common.{lowest_parting, with_set, without_set}
 use Rattle.pg_switch.proofs.EdgeSets.{left_edges, with_set-edges, without-agree}
 use Rattle.pg_switch.proofs.Finding.{crossing-found, parting-found}
 

@@ -1,7 +1,16 @@
 -- A switching game's rules are those of a test, so trees that hold force Short's win, and cuts that
 -- hold force Cut's, by the laws of spanning.
-use Rattle.std.proofs.Common.{◌≡◌, ℕ, ◌<◌, ◌≤◌, suc, Bool, not, ◌||◌, cond, refl, sym, ap, ◌∙◌, subst, arith}
-use Rattle.pg_switch.proofs.Common.{false_from_ne_true, FinSet, contains, nat_cmp, IsBelow, Win, XWins, YWins, Side, X, Y, Graph, edge_count, spans_in, first_end, second_end, IsSpan-graph, spans_e-sound, spans_e-complete, joins-below, joins_more, Field, Lines, Game, Position, field_points, field_joins, terminals_joined, greatest_bias, is_over, is_over_by, outcome, outcome_by, short_joins, can_join, has_filled, all_touched, is_full, IsPosition, claims_in_turn, Rules, ForcesBy, AreTrees, AreCuts, TreesHold, TreesHoldOn, CutsHold, CutsHoldOn, rules_of, Forces}
+use Rattle.std.proofs.Common.{◌≡◌, ℕ, ◌<◌, ◌≤◌, suc, Bool, not, ◌||◌, cond, refl, sym, ap, ◌∙◌}
+use Rattle.std.proofs.Common.{subst, arith}
+use Rattle.pg_switch.proofs.Common.{false_from_ne_true, FinSet, contains, nat_cmp, IsBelow, Win}
+use Rattle.pg_switch.proofs.Common.{XWins, YWins, Side, X, Y, Graph, edge_count, spans_in}
+use Rattle.pg_switch.proofs.Common.{first_end, second_end, IsSpan-graph, spans_e-sound}
+use Rattle.pg_switch.proofs.Common.{spans_e-complete, joins-below, joins_more, Field, Lines, Game}
+use Rattle.pg_switch.proofs.Common.{Position, field_points, field_joins, terminals_joined}
+use Rattle.pg_switch.proofs.Common.{greatest_bias, is_over, is_over_by, outcome, outcome_by}
+use Rattle.pg_switch.proofs.Common.{short_joins, can_join, has_filled, all_touched, is_full}
+use Rattle.pg_switch.proofs.Common.{IsPosition, claims_in_turn, Rules, ForcesBy, AreTrees, AreCuts}
+use Rattle.pg_switch.proofs.Common.{TreesHold, TreesHoldOn, CutsHold, CutsHoldOn, rules_of, Forces}
 use Rattle.std.proofs.Math.Path.{fun_ext, ap₂}
 use Rattle.pg_base.specs.declared.kind.Kind.{Kind}
 use Rattle.pg_base.specs.declared.score.Score.{Score}

@@ -3,7 +3,9 @@
 -- is whether edges join the terminals, on vectors whether they sum to a target, in a connectivity
 -- game whether edges join every two vertices.
 use Rattle.std.specs.Prelude.{◌≡◌, ◌⊎◌, ◌<◌, ℕ, suc, Bool, true, false, not, ◌||◌, if◌then◌else◌}
-use Rattle.pg_switch.specs.Prelude.{FinSet, contains, nat_cmp, ShareNone, below, minus, either, outside, IsWithin, XWins, YWins, Side, X, Y, Position, is_free, Rules}
+use Rattle.pg_switch.specs.Prelude.{FinSet, contains, nat_cmp, ShareNone, below, minus, either}
+use Rattle.pg_switch.specs.Prelude.{outside, IsWithin, XWins, YWins, Side, X, Y, Position, is_free}
+use Rattle.pg_switch.specs.Prelude.{Rules}
 
 -- ---- the points are the numbers below n
 

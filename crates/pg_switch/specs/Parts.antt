@@ -1,6 +1,8 @@
 -- The parts of the conditions on trees and on cuts.
 use Rattle.std.specs.Prelude.{◌≡◌, ℕ, true, false}
-use Rattle.pg_switch.specs.Prelude.{FinSet, contains, nat_cmp, ShareNone, Side, Graph, edge_count, JoinsEndsOf, IsBridge, Position, AreFreeWithE, AreFreeEdges, with_set, without_set}
+use Rattle.pg_switch.specs.Prelude.{FinSet, contains, nat_cmp, ShareNone, Side, Graph, edge_count}
+use Rattle.pg_switch.specs.Prelude.{JoinsEndsOf, IsBridge, Position, AreFreeWithE, AreFreeEdges}
+use Rattle.pg_switch.specs.Prelude.{with_set, without_set}
 
 -- disjoint sets of free edges, the first perhaps with e where the side is to move
 pub record AreFreePair (h : Graph) (p : Position) (side : Side)

@@ -1,6 +1,10 @@
 -- Replies to the loss of an edge, and when a plan may be asked.
 use Rattle.std.specs.Prelude.{◌≡◌, ℕ, ◌<◌, true, false, Option, Some, None, unwrap_or}
-use Rattle.pg_switch.specs.Prelude.{FinSet, contains, remove, nat_cmp, Switching, Side, other, Graph, first_end_of, second_end_of, Field, Lines, Game, Position, IsPosition, point_count, is_over, after, is_free, Answered, lowest_free_edge, lowest_crossing, lowest_parting, with_set, without_set, trees_answer, cuts_answer}
+use Rattle.pg_switch.specs.Prelude.{FinSet, contains, remove, nat_cmp, Switching, Side, other}
+use Rattle.pg_switch.specs.Prelude.{Graph, first_end_of, second_end_of, Field, Lines, Game}
+use Rattle.pg_switch.specs.Prelude.{Position, IsPosition, point_count, is_over, after, is_free}
+use Rattle.pg_switch.specs.Prelude.{Answered, lowest_free_edge, lowest_crossing, lowest_parting}
+use Rattle.pg_switch.specs.Prelude.{with_set, without_set, trees_answer, cuts_answer}
 use Rattle.pg_game.specs.declared.field.Field.TheVariants.{Graph as OnGraph}
 
 -- the lowest edge of the other set that crosses what is left of the one, else the lowest free edge

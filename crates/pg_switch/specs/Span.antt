@@ -1,7 +1,9 @@
 -- Connectivity games: Maker (X) wants his edges to join every two vertices, and Breaker (Y) that
 -- the edges which aren't his don't; and the conditions on trees and on parts.
-use Rattle.std.specs.Prelude.{◌≡◌, ◌<◌, ◌≤◌, ◌+◌, ◌*◌, ℕ, zero, suc, Bool, true, false, not, ◌&&◌, ◌||◌, ◌==◌, Option, Some, None, ⊤}
-use Rattle.pg_switch.specs.Prelude.{FinSet, contains, insert, nat_cmp, ShareNone, below, either, count, Side, X, Y, IsJoined, joins, Position, is_free, Rules}
+use Rattle.std.specs.Prelude.{◌≡◌, ◌<◌, ◌≤◌, ◌+◌, ◌*◌, ℕ, zero, suc, Bool, true, false, not, ◌&&◌}
+use Rattle.std.specs.Prelude.{◌||◌, ◌==◌, Option, Some, None, ⊤}
+use Rattle.pg_switch.specs.Prelude.{FinSet, contains, insert, nat_cmp, ShareNone, below, either}
+use Rattle.pg_switch.specs.Prelude.{count, Side, X, Y, IsJoined, joins, Position, is_free, Rules}
 use Rattle.pg_switch.specs.Claims.{claim_rules}
 
 -- ---- the vertices are the numbers below n; edge k below m has the ends a k and b k

@@ -1,9 +1,14 @@
 -- Storing a file and then saying texts.
-use Rattle.std.proofs.Common.{◌≡◌, ◌≢◌, ℕ, Bool, true, false, List, [], ◌∷◌, map, Option, Some, None, Result, Ok, Err, refl, sym, subst, inl, inr, arith, if◌then◌else◌}
+use Rattle.std.proofs.Common.{◌≡◌, ◌≢◌, ℕ, Bool, true, false, List, [], ◌∷◌, map, Option, Some}
+use Rattle.std.proofs.Common.{None, Result, Ok, Err, refl, sym, subst, inl, inr, arith}
+use Rattle.std.proofs.Common.{if◌then◌else◌}
 use Rattle.std.specs.Prelude.{IfSome}
-use Rattle.pg_talk.proofs.Common.{bytes_eq, ConsoleTold, Grows, Says, Bytes, Holding, Making, FilesTold, Stores, MayStore, Stored, Entry, Said, Stop, Read, Write, Memory, message_text, Message, DONE}
+use Rattle.pg_talk.proofs.Common.{bytes_eq, ConsoleTold, Grows, Says, Bytes, Holding, Making}
+use Rattle.pg_talk.proofs.Common.{FilesTold, Stores, MayStore, Stored, Entry, Said, Stop, Read}
+use Rattle.pg_talk.proofs.Common.{Write, Memory, message_text, Message, DONE}
 use Rattle.std.proofs.lemmas.Slice.Eq.{bytes_eq-Decides}
-use Rattle.pg_talk.specs.Done.{Done, End, Finished, Failed, Changes, Does, Follows, Keeps, nothing, stop_end}
+use Rattle.pg_talk.specs.Done.{Done, End, Finished, Failed, Changes, Does, Follows, Keeps, nothing}
+use Rattle.pg_talk.specs.Done.{stop_end}
 use Rattle.pg_talk.specs.Storing.{delivered, Delivers, IsCutShort, KeepOthers, SaysTexts, texts_of}
 use Rattle.pg_talk.specs.declared.halt.Halt.{Halt}
 use Rattle.pg_talk.specs.declared.halt.Halt.TheVariants.{Refused, Stopped}

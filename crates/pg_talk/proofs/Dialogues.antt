@@ -1,12 +1,17 @@
 -- What follows from the rules of dialogues.
-use Rattle.std.proofs.Common.{◌≡◌, ◌≢◌, ◌⊎◌, ℕ, ◌+◌, ◌-◌, ◌<◌, ◌≤◌, nat_eq, nat_lt, if◌then◌else◌, Bool, true, false, List, [], ◌∷◌, length, Option, Some, None, Result, Ok, Err, refl, sym, ◌∙◌, ap, subst, inl, inr, arith}
-use Rattle.pg_talk.proofs.Common.{nat_tests, other, Side, Entry, Said, Heard, Skipped, Ended, Position, is_free, Rules, IsPlayBy, free_below, moved, played_by, ReplyFault, NoPoint, Taken, DONE, INPUT_ENDED, OUT_OF_REPLIES}
+use Rattle.std.proofs.Common.{◌≡◌, ◌≢◌, ◌⊎◌, ℕ, ◌+◌, ◌-◌, ◌<◌, ◌≤◌, nat_eq, nat_lt, if◌then◌else◌}
+use Rattle.std.proofs.Common.{Bool, true, false, List, [], ◌∷◌, length, Option, Some, None, Result}
+use Rattle.std.proofs.Common.{Ok, Err, refl, sym, ◌∙◌, ap, subst, inl, inr, arith}
+use Rattle.pg_talk.proofs.Common.{nat_tests, other, Side, Entry, Said, Heard, Skipped, Ended}
+use Rattle.pg_talk.proofs.Common.{Position, is_free, Rules, IsPlayBy, free_below, moved, played_by}
+use Rattle.pg_talk.proofs.Common.{ReplyFault, NoPoint, Taken, DONE, INPUT_ENDED, OUT_OF_REPLIES}
 use Rattle.std.specs.List.{count_by}
 use Rattle.std.proofs.lemmas.List.Sums.{sum_by-cons}
 use Rattle.pg_base.specs.declared.side.Side.TheVariants.{X, Y}
 use Rattle.pg_game.proofs.RulesLaws.{length-moved}
 use Rattle.pg_talk.specs.Contest.{Contest}
-use Rattle.pg_talk.specs.Dialogue.{Stage, At, Owes, Over, Steps, Leads, EndsWith, IsOwnMove, position_at, is_heard, after_refusal, after_reply}
+use Rattle.pg_talk.specs.Dialogue.{Stage, At, Owes, Over, Steps, Leads, EndsWith, IsOwnMove}
+use Rattle.pg_talk.specs.Dialogue.{position_at, is_heard, after_refusal, after_reply}
 use Rattle.pg_talk.specs.Reply.{said_number, point_or_refusal, replied_point}
 use Rattle.pg_talk.specs.declared.dialogue.TheConstants.{MAX_REFUSALS}
 

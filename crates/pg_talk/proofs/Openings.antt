@@ -1,11 +1,15 @@
 -- What names hold, from what was read of them.
-use Rattle.std.proofs.Common.{◌≡◌, ℕ, ◌+◌, ◌<◌, true, nat_lt, min, length, take, Option, Some, None, Result, Ok, Err, refl, sym, ◌∙◌, ap, subst, inl, inr, arith, length-take}
-use Rattle.pg_talk.proofs.Common.{nat_tests, take_all, Bytes, Holding, IsWhole, IsFile, Cert, certificate, Refusal}
+use Rattle.std.proofs.Common.{◌≡◌, ℕ, ◌+◌, ◌<◌, true, nat_lt, min, length, take, Option, Some, None}
+use Rattle.std.proofs.Common.{Result, Ok, Err, refl, sym, ◌∙◌, ap, subst, inl, inr, arith}
+use Rattle.std.proofs.Common.{length-take}
+use Rattle.pg_talk.proofs.Common.{nat_tests, take_all, Bytes, Holding, IsWhole, IsFile, Cert}
+use Rattle.pg_talk.proofs.Common.{certificate, Refusal}
 use Rattle.std.proofs.lemmas.Bool.{cases_lt}
 use Rattle.std.specs.Prelude.{IsErrAnd}
 use Rattle.pg_cert_lines.specs.declared.fault.Fault.TheVariants.{Size}
 use Rattle.pg_cert_files.specs.declared.limits.TheConstants.{MAX_CERT_BYTES}
-use Rattle.pg_talk.specs.Reading.{IsReadAs, Opens, OpensCertificate, OpensTwo, certificate_held, held_as, or_halt}
+use Rattle.pg_talk.specs.Reading.{IsReadAs, Opens, OpensCertificate, OpensTwo, certificate_held}
+use Rattle.pg_talk.specs.Reading.{held_as, or_halt}
 use Rattle.pg_talk.specs.declared.halt.Halt.{Halt}
 use Rattle.pg_talk.specs.declared.halt.Halt.TheVariants.{Refused}
 

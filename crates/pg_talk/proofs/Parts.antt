@@ -1,8 +1,11 @@
 -- One part of a run, and then another.
-use Rattle.std.proofs.Common.{◌≡◌, ℕ, List, [], ◌∷◌, ◌++◌, Option, Some, None, Result, Ok, Err, refl, ◌∙◌, ap, subst, inl, inr, if◌then◌else◌}
+use Rattle.std.proofs.Common.{◌≡◌, ℕ, List, [], ◌∷◌, ◌++◌, Option, Some, None, Result, Ok, Err}
+use Rattle.std.proofs.Common.{refl, ◌∙◌, ap, subst, inl, inr, if◌then◌else◌}
 use Rattle.std.specs.Prelude.{IfSome}
-use Rattle.pg_talk.proofs.Common.{bytes_eq, ConsoleTold, Bytes, Holding, Making, FilesTold, Entry, Stop, Read, Write, Memory}
-use Rattle.pg_talk.specs.Done.{Done, End, Finished, Failed, Starved, Hears, Talked, Changes, Does, Follows, Keeps, Stops, behind, held_after, stop_end}
+use Rattle.pg_talk.proofs.Common.{bytes_eq, ConsoleTold, Bytes, Holding, Making, FilesTold, Entry}
+use Rattle.pg_talk.proofs.Common.{Stop, Read, Write, Memory}
+use Rattle.pg_talk.specs.Done.{Done, End, Finished, Failed, Starved, Hears, Talked, Changes, Does}
+use Rattle.pg_talk.specs.Done.{Follows, Keeps, Stops, behind, held_after, stop_end}
 use Rattle.pg_talk.specs.Storing.{Delivers, DeliversThen, KeepOthers, delivered}
 use Rattle.pg_talk.specs.declared.halt.Halt.{Halt}
 use Rattle.pg_talk.specs.declared.halt.Halt.TheVariants.{Refused, Stopped}

@@ -1,7 +1,9 @@
 -- A play, put together.
-use Rattle.std.proofs.Common.{◌≡◌, ◌≢◌, ℕ, List, [], ◌∷◌, Option, Result, Ok, Err, refl, sym, ap, subst, inl, inr, IfOk}
+use Rattle.std.proofs.Common.{◌≡◌, ◌≢◌, ℕ, List, [], ◌∷◌, Option, Result, Ok, Err, refl, sym, ap}
+use Rattle.std.proofs.Common.{subst, inl, inr, IfOk}
 use Rattle.std.specs.Prelude.{IsTrue, IfErr}
-use Rattle.pg_talk.proofs.Common.{Goal, Side, Bytes, ConsoleTold, Grows, Entry, Said, Stop, Read, Write, Memory, reaches, Position, claim_text, DONE}
+use Rattle.pg_talk.proofs.Common.{Goal, Side, Bytes, ConsoleTold, Grows, Entry, Said, Stop, Read}
+use Rattle.pg_talk.proofs.Common.{Write, Memory, reaches, Position, claim_text, DONE}
 use Rattle.pg_talk.specs.Contender.{Contender}
 use Rattle.pg_talk.specs.Dialogue.{At, Over}
 use Rattle.pg_talk.specs.Done.{Performs, stop_end}

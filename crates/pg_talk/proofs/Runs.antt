@@ -1,8 +1,11 @@
 -- Runs that only read files and talk.
-use Rattle.std.proofs.Common.{◌≡◌, ℕ, List, [], ◌∷◌, map, Option, Some, None, Result, Ok, Err, refl, sym, ◌∙◌, subst, inl, inr}
+use Rattle.std.proofs.Common.{◌≡◌, ℕ, List, [], ◌∷◌, map, Option, Some, None, Result, Ok, Err, refl}
+use Rattle.std.proofs.Common.{sym, ◌∙◌, subst, inl, inr}
 use Rattle.std.specs.Prelude.{IfSome}
-use Rattle.pg_talk.proofs.Common.{ConsoleTold, Grows, Bytes, Holding, FilesTold, Entry, Said, Refusal}
-use Rattle.pg_talk.specs.Done.{Done, End, Finished, Failed, Starved, Talked, Changes, Follows, Performs, Keeps, nothing, talk, stop_end}
+use Rattle.pg_talk.proofs.Common.{ConsoleTold, Grows, Bytes, Holding, FilesTold, Entry, Said}
+use Rattle.pg_talk.proofs.Common.{Refusal}
+use Rattle.pg_talk.specs.Done.{Done, End, Finished, Failed, Starved, Talked, Changes, Follows}
+use Rattle.pg_talk.specs.Done.{Performs, Keeps, nothing, talk, stop_end}
 use Rattle.pg_talk.specs.Hearing.{Hearing, InOrder}
 use Rattle.pg_talk.specs.Runs.{Runs}
 use Rattle.pg_talk.specs.declared.halt.Halt.{Halt}

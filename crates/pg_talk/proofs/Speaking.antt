@@ -1,6 +1,9 @@
 -- Logs that grow by texts.
-use Rattle.std.proofs.Common.{◌≡◌, ℕ, ◌+◌, ◌<◌, List, [], ◌∷◌, ◌++◌, length, get_or, take, drop, map, Option, Some, None, Result, Ok, Err, sym, ◌∙◌, ap, subst, append_assoc, rules}
-use Rattle.pg_talk.proofs.Common.{append-nil, map-append, map_more, take-append-drop, Bytes, Grows, Entry, Said, Stop}
+use Rattle.std.proofs.Common.{◌≡◌, ℕ, ◌+◌, ◌<◌, List, [], ◌∷◌, ◌++◌, length, get_or, take, drop}
+use Rattle.std.proofs.Common.{map, Option, Some, None, Result, Ok, Err, sym, ◌∙◌, ap, subst}
+use Rattle.std.proofs.Common.{append_assoc, rules}
+use Rattle.pg_talk.proofs.Common.{append-nil, map-append, map_more, take-append-drop, Bytes, Grows}
+use Rattle.pg_talk.proofs.Common.{Entry, Said, Stop}
 use Rattle.std.specs.Result.{IsErr}
 use Rattle.pg_talk.specs.Saying.{Speaks, IsCut}
 

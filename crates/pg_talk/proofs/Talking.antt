@@ -1,6 +1,8 @@
 -- Parts of a dialogue, put together.
-use Rattle.std.proofs.Common.{◌≡◌, ◌≢◌, ℕ, List, [], ◌∷◌, ◌++◌, drop, Option, Some, None, Result, Ok, Err, refl, sym, subst, rules}
-use Rattle.pg_talk.proofs.Common.{Side, Bytes, ConsoleTold, Grows, Consumes, reply, Entry, Said, Heard, Skipped, Ended, Stop}
+use Rattle.std.proofs.Common.{◌≡◌, ◌≢◌, ℕ, List, [], ◌∷◌, ◌++◌, drop, Option, Some, None, Result}
+use Rattle.std.proofs.Common.{Ok, Err, refl, sym, subst, rules}
+use Rattle.pg_talk.proofs.Common.{Side, Bytes, ConsoleTold, Grows, Consumes, reply, Entry, Said}
+use Rattle.pg_talk.proofs.Common.{Heard, Skipped, Ended, Stop}
 use Rattle.pg_talk.specs.Contest.{Contest}
 use Rattle.pg_talk.specs.Dialogue.{Stage, Steps, Leads, IsOpen}
 use Rattle.pg_talk.specs.Hearing.{InOrder, Hearing}

@@ -1,6 +1,10 @@
 -- Turns of a dialogue.
-use Rattle.std.proofs.Common.{◌≡◌, ◌≢◌, ℕ, ◌+◌, ◌<◌, ◌≤◌, nat_eq, nat_lt, if◌then◌else◌, Bool, true, false, [], ◌∷◌, Option, Some, None, Result, Ok, Err, refl, sym, ◌∙◌, ap, subst, inl, inr, arith}
-use Rattle.pg_talk.proofs.Common.{nat_tests, Kind, ConsoleTold, Grows, Said, Stop, Memory, Illegal, Position, is_free, ending_by, judged_by, Rules, moved, move_text, result_text, ReplyFault, NoPoint, DONE, OUT_OF_REPLIES}
+use Rattle.std.proofs.Common.{◌≡◌, ◌≢◌, ℕ, ◌+◌, ◌<◌, ◌≤◌, nat_eq, nat_lt, if◌then◌else◌, Bool, true}
+use Rattle.std.proofs.Common.{false, [], ◌∷◌, Option, Some, None, Result, Ok, Err, refl, sym, ◌∙◌}
+use Rattle.std.proofs.Common.{ap, subst, inl, inr, arith}
+use Rattle.pg_talk.proofs.Common.{nat_tests, Kind, ConsoleTold, Grows, Said, Stop, Memory, Illegal}
+use Rattle.pg_talk.proofs.Common.{Position, is_free, ending_by, judged_by, Rules, moved, move_text}
+use Rattle.pg_talk.proofs.Common.{result_text, ReplyFault, NoPoint, DONE, OUT_OF_REPLIES}
 use Rattle.pg_base.specs.declared.score.Score.{Score}
 use Rattle.pg_game.specs.declared.position.Illegal.TheVariants.{Range, Taken, Over as OverNow}
 use Rattle.pg_messages.specs.declared.message.ReplyFault.TheVariants.{Taken as IsTaken}

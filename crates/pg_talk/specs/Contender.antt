@@ -1,6 +1,7 @@
 -- What is seen of a player of one side, and what it does.
 use Rattle.std.specs.Prelude.{◌≡◌, ◌⊎◌, ◌<◌, ℕ, true, false, Option, Some, None, Ok}
-use Rattle.pg_talk.specs.Prelude.{other, Goal, Side, Game, Position, is_free, judged_by, moved, Play}
+use Rattle.pg_talk.specs.Prelude.{other, Goal, Side, Game, Position, is_free, judged_by, moved}
+use Rattle.pg_talk.specs.Prelude.{Play}
 use Rattle.pg_talk.specs.Contest.{Contest, contest_of}
 
 -- the contest, the side that is played, the goal that it reaches, and the position

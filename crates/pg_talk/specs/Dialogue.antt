@@ -1,7 +1,10 @@
 -- Dialogues: a contest of which one side is played over a console, read from the log alone. It is
 -- asked neither how the side finds its moves nor why.
-use Rattle.std.specs.Prelude.{◌≡◌, ◌⊎◌, ◌<◌, ℕ, ◌+◌, ◌==◌, Bool, true, false, List, [], ◌∷◌, Result, Ok, Err, if◌then◌else◌, ⊤}
-use Rattle.pg_talk.specs.Prelude.{other, Side, Entry, Said, Heard, Skipped, Ended, Bytes, Position, is_free, moved, move_text, reply_text, result_text, ReplyFault, NoNumber, DONE, INPUT_ENDED, OUT_OF_REPLIES}
+use Rattle.std.specs.Prelude.{◌≡◌, ◌⊎◌, ◌<◌, ℕ, ◌+◌, ◌==◌, Bool, true, false, List, [], ◌∷◌, Result}
+use Rattle.std.specs.Prelude.{Ok, Err, if◌then◌else◌, ⊤}
+use Rattle.pg_talk.specs.Prelude.{other, Side, Entry, Said, Heard, Skipped, Ended, Bytes, Position}
+use Rattle.pg_talk.specs.Prelude.{is_free, moved, move_text, reply_text, result_text, ReplyFault}
+use Rattle.pg_talk.specs.Prelude.{NoNumber, DONE, INPUT_ENDED, OUT_OF_REPLIES}
 use Rattle.pg_talk.specs.Contest.{Contest}
 use Rattle.pg_talk.specs.Reply.{replied_point}
 use Rattle.pg_talk.specs.declared.dialogue.TheConstants.{MAX_REFUSALS}

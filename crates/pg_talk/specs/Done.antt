@@ -1,6 +1,9 @@
 -- What was done in a run: what was said and stored, and how it ended.
-use Rattle.std.specs.Prelude.{◌≡◌, ◌⊎◌, ℕ, ◌==◌, ◌||◌, List, [], ◌∷◌, ◌++◌, map, Option, Some, None, Result, Ok, Err, if◌then◌else◌, IfSome}
-use Rattle.pg_talk.specs.Prelude.{bytes_eq, ConsoleTold, Grows, Bytes, Holding, Making, FilesTold, Entry, Said, Stop, Read, Write, Memory, Refusal, READ_FAILED, WRITE_FAILED, NO_MEMORY}
+use Rattle.std.specs.Prelude.{◌≡◌, ◌⊎◌, ℕ, ◌==◌, ◌||◌, List, [], ◌∷◌, ◌++◌, map, Option, Some, None}
+use Rattle.std.specs.Prelude.{Result, Ok, Err, if◌then◌else◌, IfSome}
+use Rattle.pg_talk.specs.Prelude.{bytes_eq, ConsoleTold, Grows, Bytes, Holding, Making, FilesTold}
+use Rattle.pg_talk.specs.Prelude.{Entry, Said, Stop, Read, Write, Memory, Refusal, READ_FAILED}
+use Rattle.pg_talk.specs.Prelude.{WRITE_FAILED, NO_MEMORY}
 use Rattle.pg_talk.specs.Hearing.{Hearing}
 use Rattle.pg_talk.specs.declared.halt.Halt.{Halt}
 use Rattle.pg_talk.specs.declared.halt.Halt.TheVariants.{Refused, Stopped}

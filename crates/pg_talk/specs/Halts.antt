@@ -1,6 +1,8 @@
 -- What ends a command early: its status, and by which numbers of faults it shows.
 use Rattle.std.specs.Prelude.{◌≡◌, ◌≢◌, ◌⊎◌, ℕ, [], Result, Ok, Err, ⊤}
-use Rattle.pg_talk.specs.Prelude.{ConsoleTold, Grows, FilesTold, StopCauses, Stop, Read, Write, Memory, DONE, READ_FAILED, WRITE_FAILED, NO_MEMORY, INPUT_ENDED, OUT_OF_REPLIES}
+use Rattle.pg_talk.specs.Prelude.{ConsoleTold, Grows, FilesTold, StopCauses, Stop, Read, Write}
+use Rattle.pg_talk.specs.Prelude.{Memory, DONE, READ_FAILED, WRITE_FAILED, NO_MEMORY, INPUT_ENDED}
+use Rattle.pg_talk.specs.Prelude.{OUT_OF_REPLIES}
 use Rattle.pg_io.specs.Causes.{Faults, Rose}
 use Rattle.pg_messages.specs.Statuses.{refusal_status}
 use Rattle.pg_messages.specs.declared.refusal.Refusal.TheVariants.{NoMeaning, NoClaim, Game, Record}

@@ -21,12 +21,15 @@ pub use Rattle.pg_io.specs.declared.entry.Entry.{Entry}
 pub use Rattle.pg_io.specs.declared.entry.Entry.TheVariants.{Ended, Heard, Said, Skipped}
 pub use Rattle.pg_io.specs.declared.stop.Stop.{Stop}
 pub use Rattle.pg_io.specs.declared.stop.Stop.TheVariants.{Memory, Read, Write}
-pub use Rattle.pg_messages.specs.Texts.{claim_text, message_text, move_text, reply_text, result_text}
+pub use Rattle.pg_messages.specs.Texts.{claim_text, message_text, move_text, reply_text}
+pub use Rattle.pg_messages.specs.Texts.{result_text}
 pub use Rattle.pg_messages.specs.declared.message.Message.{Message}
 pub use Rattle.pg_messages.specs.declared.message.ReplyFault.{ReplyFault}
 pub use Rattle.pg_messages.specs.declared.message.ReplyFault.TheVariants.{NoNumber, NoPoint, Taken}
 pub use Rattle.pg_messages.specs.declared.refusal.Refusal.{Refusal}
-pub use Rattle.pg_messages.specs.declared.statuses.TheConstants.{DONE, INPUT_ENDED, NO_MEMORY, OUT_OF_REPLIES, READ_FAILED, WRITE_FAILED}
+pub use Rattle.pg_messages.specs.declared.statuses.TheConstants.{DONE, INPUT_ENDED, NO_MEMORY}
+pub use Rattle.pg_messages.specs.declared.statuses.TheConstants.{OUT_OF_REPLIES, READ_FAILED}
+pub use Rattle.pg_messages.specs.declared.statuses.TheConstants.{WRITE_FAILED}
 pub use Rattle.pg_player.specs.Player.{Play}
 pub use Rattle.pg_text.specs.declared.error.FileError.{FileError}
 pub use Rattle.std.specs.Str.{bytes_eq}

@@ -2,7 +2,8 @@
 use Rattle.std.specs.Prelude.{◌≡◌, ℕ, Option, Some, None, Result, Ok, Err, ⊤}
 use Rattle.pg_talk.specs.Prelude.{Bytes, Holding, Read, Cert, certificate}
 use Rattle.pg_cert_lines.specs.Views.{number_of as certificate_fault_number}
-use Rattle.pg_messages.specs.declared.refusal.Refusal.TheVariants.{Game as FaultyGame, Certificate as FaultyCertificate}
+use Rattle.pg_messages.specs.declared.refusal.Refusal.TheVariants.{Game as FaultyGame}
+use Rattle.pg_messages.specs.declared.refusal.Refusal.TheVariants.{Certificate as FaultyCertificate}
 use Rattle.pg_talk.specs.declared.halt.Halt.{Halt}
 use Rattle.pg_talk.specs.declared.halt.Halt.TheVariants.{Refused, Stopped}
 

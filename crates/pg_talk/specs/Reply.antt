@@ -1,6 +1,8 @@
 -- What a line that was heard says.
-use Rattle.std.specs.Prelude.{ℕ, ◌==◌, ◌||◌, Bool, [], ◌∷◌, reverse, nat_lt, Option, Some, None, Result, Ok, Err, if◌then◌else◌}
-use Rattle.pg_talk.specs.Prelude.{Bytes, Position, is_free, Rules, ReplyFault, NoNumber, NoPoint, Taken}
+use Rattle.std.specs.Prelude.{ℕ, ◌==◌, ◌||◌, Bool, [], ◌∷◌, reverse, nat_lt, Option, Some, None}
+use Rattle.std.specs.Prelude.{Result, Ok, Err, if◌then◌else◌}
+use Rattle.pg_talk.specs.Prelude.{Bytes, Position, is_free, Rules, ReplyFault, NoNumber, NoPoint}
+use Rattle.pg_talk.specs.Prelude.{Taken}
 use Rattle.pg_base.specs.declared.signs.TheConstants.{SPACE}
 use Rattle.pg_text.specs.Text.{number}
 

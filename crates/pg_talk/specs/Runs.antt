@@ -1,7 +1,8 @@
 -- What a command may do on names that hold certain bytes, and what was said by one that was
 -- stopped.
 use Rattle.std.specs.Prelude.{ℕ, [], Result, Ok, Err, IfSome, ⊤}
-use Rattle.pg_talk.specs.Prelude.{ConsoleTold, Grows, Holding, FilesTold, Read, Write, Memory, Refusal}
+use Rattle.pg_talk.specs.Prelude.{ConsoleTold, Grows, Holding, FilesTold, Read, Write, Memory}
+use Rattle.pg_talk.specs.Prelude.{Refusal}
 use Rattle.pg_talk.specs.Done.{Done, End, Follows}
 use Rattle.pg_talk.specs.declared.halt.Halt.{Halt}
 use Rattle.pg_talk.specs.declared.halt.Halt.TheVariants.{Refused, Stopped}

@@ -1,6 +1,8 @@
 -- What is stored and then said.
-use Rattle.std.specs.Prelude.{◌≡◌, ◌≢◌, ◌⊎◌, List, [], ◌∷◌, ◌++◌, map, Option, Some, None, Result, Ok, Err, false, ⊤}
-use Rattle.pg_talk.specs.Prelude.{Grows, Bytes, Holding, Making, FilesTold, ReadsOnly, Entry, Said, Stop, message_text, Message, DONE}
+use Rattle.std.specs.Prelude.{◌≡◌, ◌≢◌, ◌⊎◌, List, [], ◌∷◌, ◌++◌, map, Option, Some, None, Result}
+use Rattle.std.specs.Prelude.{Ok, Err, false, ⊤}
+use Rattle.pg_talk.specs.Prelude.{Grows, Bytes, Holding, Making, FilesTold, ReadsOnly, Entry, Said}
+use Rattle.pg_talk.specs.Prelude.{Stop, message_text, Message, DONE}
 use Rattle.pg_talk.specs.Done.{Done, End, Finished, Failed, Starved, Stops, behind}
 
 -- a file was stored, and then these texts were said

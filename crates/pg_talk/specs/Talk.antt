@@ -1,9 +1,11 @@
 -- Parts of a dialogue over a console.
 use Rattle.std.specs.Prelude.{◌≡◌, ◌<◌, ℕ, List, length, Option, Result, Ok, Err, ⊤}
-use Rattle.pg_talk.specs.Prelude.{Side, Entry, Stop, Bytes, ConsoleTold, Grows, Position, free_below, INPUT_ENDED}
+use Rattle.pg_talk.specs.Prelude.{Side, Entry, Stop, Bytes, ConsoleTold, Grows, Position}
+use Rattle.pg_talk.specs.Prelude.{free_below, INPUT_ENDED}
 use Rattle.pg_talk.specs.Contender.{Contender, at}
 use Rattle.pg_talk.specs.Contest.{Contest}
-use Rattle.pg_talk.specs.Dialogue.{Stage, At, Over, IsTheirs, Leads, IsOpen, after_refusal, after_reply}
+use Rattle.pg_talk.specs.Dialogue.{Stage, At, Over, IsTheirs, Leads, IsOpen, after_refusal}
+use Rattle.pg_talk.specs.Dialogue.{after_reply}
 use Rattle.pg_talk.specs.Hearing.{Hearing}
 use Rattle.pg_talk.specs.Reply.{point_or_refusal}
 use Rattle.pg_talk.specs.declared.dialogue.Turn.{Turn}

@@ -1,7 +1,12 @@
 -- A text that is cut at a sign.
-use Rattle.std.proofs.Common.{◌≡◌, ◌⊎◌, ℕ, suc, ◌+◌, ◌-◌, ◌<◌, ◌≤◌, Bool, true, false, List, [], ◌∷◌, ◌++◌, length, take, drop, get_or, get_or-take, slice_index, arith, refl, sym, ap, ◌∙◌, inl, inr, Option, Some, None}
+use Rattle.std.proofs.Common.{◌≡◌, ◌⊎◌, ℕ, suc, ◌+◌, ◌-◌, ◌<◌, ◌≤◌, Bool, true, false, List, []}
+use Rattle.std.proofs.Common.{◌∷◌, ◌++◌, length, take, drop, get_or, get_or-take, slice_index}
+use Rattle.std.proofs.Common.{arith, refl, sym, ap, ◌∙◌, inl, inr, Option, Some, None}
 use Rattle.std.specs.Prelude.{◌==◌}
-use Rattle.pg_text.proofs.Common.{position, position_or_len, cases_Bool, eqb-true, nat_tests, take_all, length-take-le, length-drop, take-append-drop, position_or_len_is, slice_split_at, slice_split_none, length-slice_split, SPACE}
+use Rattle.pg_text.proofs.Common.{position, position_or_len, cases_Bool, eqb-true, nat_tests}
+use Rattle.pg_text.proofs.Common.{take_all, length-take-le, length-drop, take-append-drop}
+use Rattle.pg_text.proofs.Common.{position_or_len_is, slice_split_at, slice_split_none}
+use Rattle.pg_text.proofs.Common.{length-slice_split, SPACE}
 use Rattle.std.proofs.lemmas.List.Quantifiers.{position-Some}
 use Rattle.std.proofs.lemmas.Grind.{get_or_default_zero}
 use Rattle.std.proofs.Math.Seq.{drop-cons}

@@ -1,9 +1,13 @@
 -- Printed numbers are read again, and have no other signs than digits.
-use Rattle.std.proofs.Common.{◌≡◌, ℕ, zero, suc, ◌^◌, ◌<◌, ◌≤◌, lit<, Bool, true, false, cond, ◌||◌, ◌⊎◌, inl, inr, List, [], ◌∷◌, ◌++◌, length, map, get_or, arith, refl, ap, ◌∙◌}
+use Rattle.std.proofs.Common.{◌≡◌, ℕ, zero, suc, ◌^◌, ◌<◌, ◌≤◌, lit<, Bool, true, false, cond, ◌||◌}
+use Rattle.std.proofs.Common.{◌⊎◌, inl, inr, List, [], ◌∷◌, ◌++◌, length, map, get_or, arith, refl}
+use Rattle.std.proofs.Common.{ap, ◌∙◌}
 use Rattle.std.specs.Prelude.{◌==◌, nat_lt, nat_le, Some, None}
-use Rattle.pg_text.proofs.Common.{is_ascii_digit, decimal, list_all, AllByRecursion, digits_value, AllDigits, nat_tests, All-from_recursion, digit_from_value}
+use Rattle.pg_text.proofs.Common.{is_ascii_digit, decimal, list_all, AllByRecursion, digits_value}
+use Rattle.pg_text.proofs.Common.{AllDigits, nat_tests, All-from_recursion, digit_from_value}
 use Rattle.std.specs.Str.{bytes_eq}
-use Rattle.std.proofs.lemmas.Fmt.{decimal_is_IsNumeral, length-decimal-le, first_decimal, decimal_digit}
+use Rattle.std.proofs.lemmas.Fmt.{decimal_is_IsNumeral, length-decimal-le, first_decimal}
+use Rattle.std.proofs.lemmas.Fmt.{decimal_digit}
 use Rattle.pg_text.specs.Text.{Bytes, Lacks, two_parts, number}
 use Rattle.pg_text.proofs.Cuts.{just_two}
 

@@ -1,6 +1,8 @@
 -- The number that digits write.
-use Rattle.std.proofs.Common.{◌≡◌, ℕ, ◌+◌, ◌-◌, ◌*◌, ◌^◌, ◌<◌, ◌≤◌, lit≤, true, List, [], ◌∷◌, length, take, get_or, arith, ap, ◌∙◌}
-use Rattle.pg_text.proofs.Common.{is_ascii_digit, digit_value, list_all, digits_value, AllDigits, and_parts, nat_tests, digits_value-take-le, digit_at}
+use Rattle.std.proofs.Common.{◌≡◌, ℕ, ◌+◌, ◌-◌, ◌*◌, ◌^◌, ◌<◌, ◌≤◌, lit≤, true, List, [], ◌∷◌}
+use Rattle.std.proofs.Common.{length, take, get_or, arith, ap, ◌∙◌}
+use Rattle.pg_text.proofs.Common.{is_ascii_digit, digit_value, list_all, digits_value, AllDigits}
+use Rattle.pg_text.proofs.Common.{and_parts, nat_tests, digits_value-take-le, digit_at}
 use Rattle.std.proofs.lemmas.Int.Digits.{digits_value_more, digits_value-lt}
 use Rattle.std.proofs.Math.Nat.{pow-le-pow_right}
 use Rattle.pg_text.specs.declared.numbers.TheConstants.{MAX_DIGITS}

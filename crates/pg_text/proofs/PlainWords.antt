@@ -2,7 +2,8 @@
 -- no other signs.
 use Rattle.std.proofs.Common.{◌≡◌, ℕ, ◌^◌, ◌<◌, ◌≤◌, false, List, [], ◌∷◌, arith, refl, ap, ◌∙◌}
 use Rattle.std.specs.Prelude.{◌==◌}
-use Rattle.pg_text.proofs.Common.{decimal, AllByRecursion, nat_tests, append-nil, All-from_recursion}
+use Rattle.pg_text.proofs.Common.{decimal, AllByRecursion, nat_tests, append-nil}
+use Rattle.pg_text.proofs.Common.{All-from_recursion}
 use Rattle.pg_text.specs.Text.{Bytes, Lacks, parts, spaced, behind_spaces}
 use Rattle.pg_text.proofs.Cuts.{first_and_others, only_word}
 use Rattle.pg_text.proofs.Decimals.{IsDigit, all_append, all_of, decimal_digits}

@@ -1,5 +1,7 @@
 -- The least fault of a line, and a text that is read line by line.
-use Rattle.std.proofs.Common.{◌≡◌, ℕ, ◌+◌, ◌≤◌, Bool, true, false, cond, List, [], ◌∷◌, ◌++◌, length, Result, Ok, Err, Option, Some, None, refl, sym, ap, ◌∙◌, arith}
+use Rattle.std.proofs.Common.{◌≡◌, ℕ, ◌+◌, ◌≤◌, Bool, true, false, cond, List, [], ◌∷◌, ◌++◌}
+use Rattle.std.proofs.Common.{length, Result, Ok, Err, Option, Some, None, refl, sym, ap, ◌∙◌}
+use Rattle.std.proofs.Common.{arith}
 use Rattle.pg_text.proofs.Common.{slice_split, length-slice_split, count_by-le-length}
 use Rattle.pg_text.specs.Text.{Bytes, without_empty_end, lines}
 use Rattle.pg_text.specs.Faults.{least, IsLeast, unless, go_on, reading, Fails, IsReadAs, at}

@@ -1,5 +1,6 @@
 -- Numbers of a list that ascend: each and the next are in order.
-use Rattle.std.proofs.Common.{◌≡◌, ℕ, ◌+◌, ◌<◌, Bool, true, false, ◌&&◌, List, [], ◌∷◌, zero, suc, length, map, get_or, add-one, arith, refl, sym}
+use Rattle.std.proofs.Common.{◌≡◌, ℕ, ◌+◌, ◌<◌, Bool, true, false, ◌&&◌, List, [], ◌∷◌, zero, suc}
+use Rattle.std.proofs.Common.{length, map, get_or, add-one, arith, refl, sym}
 use Rattle.std.specs.Prelude.{nat_lt, nat_le}
 use Rattle.pg_text.proofs.Common.{IsAllAdjacentAnswer, nat_tests}
 use Rattle.pg_text.specs.Text.{ascend_from}

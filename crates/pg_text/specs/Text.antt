@@ -1,7 +1,10 @@
 -- Text of signs and words: parts with one sign between each two, lines, words behind single spaces,
 -- and numbers.
-use Rattle.std.specs.Prelude.{◌≡◌, ℕ, ◌+◌, Bool, true, false, ◌&&◌, ◌||◌, not, nat_lt, nat_le, ◌==◌, if◌then◌else◌, List, [], ◌∷◌, ◌++◌, length, slice_index, Option, Some, None, option_map, filter}
-use Rattle.pg_text.specs.Prelude.{is_ascii_digit, slice_split, list_all, flat_map, All, digits_value}
+use Rattle.std.specs.Prelude.{◌≡◌, ℕ, ◌+◌, Bool, true, false, ◌&&◌, ◌||◌, not, nat_lt, nat_le, ◌==◌}
+use Rattle.std.specs.Prelude.{if◌then◌else◌, List, [], ◌∷◌, ◌++◌, length, slice_index, Option, Some}
+use Rattle.std.specs.Prelude.{None, option_map, filter}
+use Rattle.pg_text.specs.Prelude.{is_ascii_digit, slice_split, list_all, flat_map, All}
+use Rattle.pg_text.specs.Prelude.{digits_value}
 pub use Rattle.pg_base.specs.Texts.{Bytes}
 use Rattle.pg_base.specs.declared.signs.TheConstants.{LINE_FEED, SPACE}
 use Rattle.pg_text.specs.declared.numbers.TheConstants.{MAX_DIGITS}

@@ -1,7 +1,20 @@
 -- Which attacks are worth trying, and what they leave.
 use Rattle.std.specs.Prelude.{◌↔◌, Option, Some, None, IfSome, IfNone}
-use Rattle.std.proofs.Common.{◌≡◌, ◌≢◌, ℕ, ◌+◌, ◌*◌, ◌<◌, ◌≤◌, true, false, ◌||◌, ◌==◌, List, [], ◌∷◌, length, refl, sym, ap, ◌∙◌, subst, inl, inr, arith, eqb-true, eq-eqb, ne_eqb}
-use Rattle.pg_threat.proofs.Common.{is_some, cases_Bool, cases_eq, cases_order, and_parts, and_from, or_cases, or_left, false≢true, get_or_default, Contains, list_any, FinSet, contains, insert, empty, contains-empty, nat_cmp, in_insert, IsLeastFrom, ShareNone, other, MakerMaker, Side, Game, Position, is_free, points_of, lines_of, point_count, has_filled, is_touched, after, is_on, is_near, has_threat, depth_of, IsAttack, Forcing, Filling, LeadsToLine, IsAttacking, member-from_any, true-at, other_other, free-of, points_of-mover, points_of-waiter, turn-alternates, free-was, IsPosition-after, ShareNone-after, Near, near-from, near-threat, near-filled, near-filling, near-stays, filled-waits, filled_but, untouched, line_at}
+use Rattle.std.proofs.Common.{◌≡◌, ◌≢◌, ℕ, ◌+◌, ◌*◌, ◌<◌, ◌≤◌, true, false, ◌||◌, ◌==◌, List, []}
+use Rattle.std.proofs.Common.{◌∷◌, length, refl, sym, ap, ◌∙◌, subst, inl, inr, arith, eqb-true}
+use Rattle.std.proofs.Common.{eq-eqb, ne_eqb}
+use Rattle.pg_threat.proofs.Common.{is_some, cases_Bool, cases_eq, cases_order, and_parts, and_from}
+use Rattle.pg_threat.proofs.Common.{or_cases, or_left, false≢true, get_or_default, Contains}
+use Rattle.pg_threat.proofs.Common.{list_any, FinSet, contains, insert, empty, contains-empty}
+use Rattle.pg_threat.proofs.Common.{nat_cmp, in_insert, IsLeastFrom, ShareNone, other, MakerMaker}
+use Rattle.pg_threat.proofs.Common.{Side, Game, Position, is_free, points_of, lines_of, point_count}
+use Rattle.pg_threat.proofs.Common.{has_filled, is_touched, after, is_on, is_near, has_threat}
+use Rattle.pg_threat.proofs.Common.{depth_of, IsAttack, Forcing, Filling, LeadsToLine, IsAttacking}
+use Rattle.pg_threat.proofs.Common.{member-from_any, true-at, other_other, free-of, points_of-mover}
+use Rattle.pg_threat.proofs.Common.{points_of-waiter, turn-alternates, free-was, IsPosition-after}
+use Rattle.pg_threat.proofs.Common.{ShareNone-after, Near, near-from, near-threat, near-filled}
+use Rattle.pg_threat.proofs.Common.{near-filling, near-stays, filled-waits, filled_but, untouched}
+use Rattle.pg_threat.proofs.Common.{line_at}
 use Rattle.pg_threat.specs.Lacking.{lacks_at, is_lacking, IsLackedTwice}
 use Rattle.pg_threat.specs.Search.{IsAnswering, Replied, IsTried, NoneBelow}
 use Rattle.pg_threat.proofs.LineCounts.{one-lacked, one-near, two-lacked, line-lacked, lacking-free}

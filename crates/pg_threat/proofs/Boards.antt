@@ -1,5 +1,6 @@
 -- A board after a play, and after the play was taken back.
-use Rattle.std.proofs.Common.{◌≡◌, ◌≤◌, ℕ, List, [], ◌∷◌, ◌++◌, length, refl, sym, ap, ◌∙◌, subst, arith}
+use Rattle.std.proofs.Common.{◌≡◌, ◌≤◌, ℕ, List, [], ◌∷◌, ◌++◌, length, refl, sym, ap, ◌∙◌, subst}
+use Rattle.std.proofs.Common.{arith}
 use Rattle.pg_threat.proofs.Common.{length_push, Game, Position, after, Stand, View}
 
 -- what holds of a game and a position holds of equal ones

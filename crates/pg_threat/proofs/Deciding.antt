@@ -1,7 +1,8 @@
 -- What the search says of the criterion by which a position is decided.
 use Rattle.std.specs.Prelude.{Option, Some, None}
 use Rattle.std.proofs.Common.{◌≡◌, ◌≢◌, true, false, inl, inr, arith, ne_eqb}
-use Rattle.pg_threat.proofs.Common.{is_some, cases_Bool, and_from, and_left, and_right, Game, Position, may_attack, has_threat_line}
+use Rattle.pg_threat.proofs.Common.{is_some, cases_Bool, and_from, and_left, and_right, Game}
+use Rattle.pg_threat.proofs.Common.{Position, may_attack, has_threat_line}
 use Rattle.pg_game.specs.Decided.{attack_wins, greatest_depth}
 use Rattle.pg_game.proofs.ThreatSearch.{line-within, within-line}
 use Rattle.pg_threat.specs.declared.line.ThreatLine.{ThreatLine}

@@ -1,8 +1,16 @@
 -- Where no line is left of which the side lacks two after an attack and its reply.
-use Rattle.std.proofs.Common.{◌≡◌, ℕ, ◌+◌, ◌≤◌, Bool, true, false, not, ◌&&◌, ◌==◌, List, [], ◌∷◌, length, refl, sym, ap, ◌∙◌, subst, inl, inr, arith, eqb-true, cond}
-use Rattle.pg_threat.proofs.Common.{cases_Bool, and_parts, and_from, or_parts, not_from_false, false≢true, eq-eqb, sum_by-cons, Contains, count_by, FinSet, contains, insert, nat_cmp, in_insert, other, Side, Game, Position, is_free, points_of, lines_of, is_touched, after, is_on, IsAttack, IsAttacking, member-from_any, list_any-one, other_other, free-of, points_of-mover, points_of-waiter, turn-alternates, is_live_with, live_with, clear-any}
+use Rattle.std.proofs.Common.{◌≡◌, ℕ, ◌+◌, ◌≤◌, Bool, true, false, not, ◌&&◌, ◌==◌, List, [], ◌∷◌}
+use Rattle.std.proofs.Common.{length, refl, sym, ap, ◌∙◌, subst, inl, inr, arith, eqb-true, cond}
+use Rattle.pg_threat.proofs.Common.{cases_Bool, and_parts, and_from, or_parts, not_from_false}
+use Rattle.pg_threat.proofs.Common.{false≢true, eq-eqb, sum_by-cons, Contains, count_by, FinSet}
+use Rattle.pg_threat.proofs.Common.{contains, insert, nat_cmp, in_insert, other, Side, Game}
+use Rattle.pg_threat.proofs.Common.{Position, is_free, points_of, lines_of, is_touched, after}
+use Rattle.pg_threat.proofs.Common.{is_on, IsAttack, IsAttacking, member-from_any, list_any-one}
+use Rattle.pg_threat.proofs.Common.{other_other, free-of, points_of-mover, points_of-waiter}
+use Rattle.pg_threat.proofs.Common.{turn-alternates, is_live_with, live_with, clear-any}
 use Rattle.pg_threat.specs.Lacking.{is_gained, lacks, lacks_at, is_lacking, is_partner}
-use Rattle.pg_threat.proofs.LineCounts.{count-insert, count-more, lacks-from, lacks-to, own-and_free, some-counted}
+use Rattle.pg_threat.proofs.LineCounts.{count-insert, count-more, lacks-from, lacks-to}
+use Rattle.pg_threat.proofs.LineCounts.{own-and_free, some-counted}
 
 -- ---- lists
 

@@ -1,8 +1,24 @@
 -- An attack that serves no later one: what leads to a line after it and its reply does so without
 -- them.
 use Rattle.std.specs.Prelude.{None}
-use Rattle.std.proofs.Common.{◌≡◌, ◌≢◌, ℕ, ◌+◌, ◌-◌, ◌<◌, ◌≤◌, Bool, true, false, ◌||◌, ◌==◌, List, [], ◌∷◌, length, get_or, refl, sym, ap, ◌∙◌, subst, inl, inr, arith, eqb-true, eq-eqb, ne_eqb}
-use Rattle.pg_threat.proofs.Common.{cases_Bool, cases_eq, and_parts, and_from, or_cases, or_left, or_right, or_parts, or_from, not_from_false, false≢true, get_or_default, length-range_with_len, get_or-range_with_len, Contains, count_by, list_any, list_all, range_with_len, FinSet, contains, insert, nat_cmp, IsLeastFrom, ShareNone, in_insert, same_points, other, MakerMaker, Side, X, Y, Game, Position, is_free, points_of, lines_of, has_filled, is_filled, is_touched, point_count, after, is_on, depth_of, has_threat, IsAttack, Forcing, Filling, LeadsToLine, IsAttacking, Contains-filter, list_any-one, member-from_any, other_other, free-of, free-stays, free-was, apart, points_of-mover, points_of-waiter, turn-alternates, ShareNone-after, Near, filled_but, filled-with, untouched, near-from, near-range, near-to, near-filled, near-filling, near-threat, filled-waits, forced-after, attacking-after, line_at, lines_holding}
+use Rattle.std.proofs.Common.{◌≡◌, ◌≢◌, ℕ, ◌+◌, ◌-◌, ◌<◌, ◌≤◌, Bool, true, false, ◌||◌, ◌==◌, List}
+use Rattle.std.proofs.Common.{[], ◌∷◌, length, get_or, refl, sym, ap, ◌∙◌, subst, inl, inr, arith}
+use Rattle.std.proofs.Common.{eqb-true, eq-eqb, ne_eqb}
+use Rattle.pg_threat.proofs.Common.{cases_Bool, cases_eq, and_parts, and_from, or_cases, or_left}
+use Rattle.pg_threat.proofs.Common.{or_right, or_parts, or_from, not_from_false, false≢true}
+use Rattle.pg_threat.proofs.Common.{get_or_default, length-range_with_len, get_or-range_with_len}
+use Rattle.pg_threat.proofs.Common.{Contains, count_by, list_any, list_all, range_with_len, FinSet}
+use Rattle.pg_threat.proofs.Common.{contains, insert, nat_cmp, IsLeastFrom, ShareNone, in_insert}
+use Rattle.pg_threat.proofs.Common.{same_points, other, MakerMaker, Side, X, Y, Game, Position}
+use Rattle.pg_threat.proofs.Common.{is_free, points_of, lines_of, has_filled, is_filled, is_touched}
+use Rattle.pg_threat.proofs.Common.{point_count, after, is_on, depth_of, has_threat, IsAttack}
+use Rattle.pg_threat.proofs.Common.{Forcing, Filling, LeadsToLine, IsAttacking, Contains-filter}
+use Rattle.pg_threat.proofs.Common.{list_any-one, member-from_any, other_other, free-of, free-stays}
+use Rattle.pg_threat.proofs.Common.{free-was, apart, points_of-mover, points_of-waiter}
+use Rattle.pg_threat.proofs.Common.{turn-alternates, ShareNone-after, Near, filled_but, filled-with}
+use Rattle.pg_threat.proofs.Common.{untouched, near-from, near-range, near-to, near-filled}
+use Rattle.pg_threat.proofs.Common.{near-filling, near-threat, filled-waits, forced-after}
+use Rattle.pg_threat.proofs.Common.{attacking-after, line_at, lines_holding}
 use Rattle.pg_threat.specs.Lacking.{is_lacking, own_count, IsIdle}
 use Rattle.pg_threat.specs.Search.{IsAnswering, IsFound, NoneBelow, Replied}
 use Rattle.pg_threat.proofs.Attacks.{off-line, threat-near}

@@ -1,6 +1,16 @@
 -- How many points of a line a side lacks, by the points themselves.
-use Rattle.std.proofs.Common.{◌≡◌, ◌≢◌, ℕ, ◌+◌, ◌<◌, ◌≤◌, Bool, true, false, cond, not, ◌&&◌, ◌||◌, ◌==◌, List, [], ◌∷◌, length, refl, sym, ap, ap₂, ◌∙◌, subst, inl, inr, arith, eqb-true, eq-eqb, ne_eqb}
-use Rattle.pg_threat.proofs.Common.{cases_Bool, cases_eq, and_left, and_parts, and_from, or_parts, not-true, not_from_false, sum_by-cons, count_by-le-length, get_or-le-sum_by, Contains, count_by, list_all, list_any, FinSet, contains, insert, nat_cmp, ShareNone, in_insert, other, Side, X, Y, Game, Position, is_free, points_of, lines_of, is_touched, point_count, is_on, member-from_any, list_any-one, list_any-none, free-of, Near, filled_but, filled-with, filled-without, untouched, near-range, is_live_with, live_with, clear-any}
+use Rattle.std.proofs.Common.{◌≡◌, ◌≢◌, ℕ, ◌+◌, ◌<◌, ◌≤◌, Bool, true, false, cond, not, ◌&&◌, ◌||◌}
+use Rattle.std.proofs.Common.{◌==◌, List, [], ◌∷◌, length, refl, sym, ap, ap₂, ◌∙◌, subst, inl, inr}
+use Rattle.std.proofs.Common.{arith, eqb-true, eq-eqb, ne_eqb}
+use Rattle.pg_threat.proofs.Common.{cases_Bool, cases_eq, and_left, and_parts, and_from, or_parts}
+use Rattle.pg_threat.proofs.Common.{not-true, not_from_false, sum_by-cons, count_by-le-length}
+use Rattle.pg_threat.proofs.Common.{get_or-le-sum_by, Contains, count_by, list_all, list_any}
+use Rattle.pg_threat.proofs.Common.{FinSet, contains, insert, nat_cmp, ShareNone, in_insert, other}
+use Rattle.pg_threat.proofs.Common.{Side, X, Y, Game, Position, is_free, points_of, lines_of}
+use Rattle.pg_threat.proofs.Common.{is_touched, point_count, is_on, member-from_any, list_any-one}
+use Rattle.pg_threat.proofs.Common.{list_any-none, free-of, Near, filled_but, filled-with}
+use Rattle.pg_threat.proofs.Common.{filled-without, untouched, near-range, is_live_with, live_with}
+use Rattle.pg_threat.proofs.Common.{clear-any}
 use Rattle.pg_base.proofs.LineLemmas.{count-ascending}
 use Rattle.pg_game.proofs.WeightBounds.{line-fit}
 use Rattle.pg_threat.specs.Lacking.{lacks, lacks_at, is_lacking}

@@ -1,6 +1,15 @@
 -- The replies to an attack, read off the lines through it.
-use Rattle.std.proofs.Common.{◌≡◌, ◌≢◌, ℕ, suc, ◌+◌, ◌<◌, ◌≤◌, Bool, true, false, not, ◌&&◌, ◌||◌, ◌==◌, List, [], ◌∷◌, length, get_or, take, refl, sym, ap, ap₂, ◌∙◌, subst, inl, inr, arith, ne_eqb}
-use Rattle.pg_threat.proofs.Common.{cases_Bool, and_parts, and_from, not-true, not_from_false, false≢true, eq-eqb, take_all, Contains-get_or, list_any_more, Contains, list_any, range_with_len, FinSet, contains, insert, remove, nat_cmp, in_insert, in_remove, ShareNone, Side, Game, Position, points_of, lines_of, after, is_on, IsAttack, any_both, false-at, member-from_any, list_any-one, free-of, free-stays, free-was, points_of-mover, ShareNone-after, Near, filled_but, filled-without, line_at, lines_holding}
+use Rattle.std.proofs.Common.{◌≡◌, ◌≢◌, ℕ, suc, ◌+◌, ◌<◌, ◌≤◌, Bool, true, false, not, ◌&&◌, ◌||◌}
+use Rattle.std.proofs.Common.{◌==◌, List, [], ◌∷◌, length, get_or, take, refl, sym, ap, ap₂, ◌∙◌}
+use Rattle.std.proofs.Common.{subst, inl, inr, arith, ne_eqb}
+use Rattle.pg_threat.proofs.Common.{cases_Bool, and_parts, and_from, not-true, not_from_false}
+use Rattle.pg_threat.proofs.Common.{false≢true, eq-eqb, take_all, Contains-get_or, list_any_more}
+use Rattle.pg_threat.proofs.Common.{Contains, list_any, range_with_len, FinSet, contains, insert}
+use Rattle.pg_threat.proofs.Common.{remove, nat_cmp, in_insert, in_remove, ShareNone, Side, Game}
+use Rattle.pg_threat.proofs.Common.{Position, points_of, lines_of, after, is_on, IsAttack, any_both}
+use Rattle.pg_threat.proofs.Common.{false-at, member-from_any, list_any-one, free-of, free-stays}
+use Rattle.pg_threat.proofs.Common.{free-was, points_of-mover, ShareNone-after, Near, filled_but}
+use Rattle.pg_threat.proofs.Common.{filled-without, line_at, lines_holding}
 use Rattle.pg_board.proofs.Ranges.{filtered-below}
 use Rattle.pg_threat.specs.Lacking.{is_gained, is_open_on, lacks, lacks_at, is_lacking, is_partner}
 use Rattle.pg_threat.proofs.LineCounts.{count-more, counted-all, lacks-from, one-lacked, one-near}

@@ -1,8 +1,16 @@
 -- A walk along the lines that the other side hasn't touched.
-use Rattle.std.proofs.Common.{◌≡◌, ℕ, zero, suc, ◌+◌, ◌-◌, ◌<◌, ◌≤◌, Bool, true, false, ◌&&◌, ◌||◌, ◌==◌, List, [], length, get_or, take, Some, None, refl, sym, ap, ap₂, ◌∙◌, subst, inl, inr, arith, eqb-true, eq-eqb, ne_eqb, take_all}
+use Rattle.std.proofs.Common.{◌≡◌, ℕ, zero, suc, ◌+◌, ◌-◌, ◌<◌, ◌≤◌, Bool, true, false, ◌&&◌, ◌||◌}
+use Rattle.std.proofs.Common.{◌==◌, List, [], length, get_or, take, Some, None, refl, sym, ap, ap₂}
+use Rattle.std.proofs.Common.{◌∙◌, subst, inl, inr, arith, eqb-true, eq-eqb, ne_eqb, take_all}
 use Rattle.std.specs.Prelude.{Option}
-use Rattle.pg_threat.proofs.Common.{cases_eq, cases_lt, and_parts, and_from, and_left, and_right, or_left, or_right, or_cases, false≢true, list_any_more, list_any_at, get_or-take, length-take, list_any, FinSet, contains, insert, empty, contains-empty, nat_cmp, in_insert, other, Side, Game, Position, is_free, lines_of, is_on, line_at}
-use Rattle.pg_threat.specs.Lacking.{own_count, is_live, NoneLive, IsNextLive, is_open_on, lacks, lacks_at, is_lacking, come_to, left_to, IsScan, IsLackedTwice, IsScanTwice}
+use Rattle.pg_threat.proofs.Common.{cases_eq, cases_lt, and_parts, and_from, and_left, and_right}
+use Rattle.pg_threat.proofs.Common.{or_left, or_right, or_cases, false≢true, list_any_more}
+use Rattle.pg_threat.proofs.Common.{list_any_at, get_or-take, length-take, list_any, FinSet}
+use Rattle.pg_threat.proofs.Common.{contains, insert, empty, contains-empty, nat_cmp, in_insert}
+use Rattle.pg_threat.proofs.Common.{other, Side, Game, Position, is_free, lines_of, is_on, line_at}
+use Rattle.pg_threat.specs.Lacking.{own_count, is_live, NoneLive, IsNextLive, is_open_on, lacks}
+use Rattle.pg_threat.specs.Lacking.{lacks_at, is_lacking, come_to, left_to, IsScan, IsLackedTwice}
+use Rattle.pg_threat.specs.Lacking.{IsScanTwice}
 
 -- ---- the free points of a line
 

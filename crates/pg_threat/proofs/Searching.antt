@@ -1,14 +1,25 @@
 -- The search, attack by attack and depth by depth.
 use Rattle.std.specs.Prelude.{◌↔◌, ◌==◌, if◌then◌else◌, Option, Some, None, IfSome, IfNone}
-use Rattle.std.proofs.Common.{◌≡◌, ◌≢◌, ℕ, ◌+◌, ◌-◌, ◌*◌, ◌<◌, ◌≤◌, true, false, List, [], ◌∷◌, length, refl, sym, ap, ◌∙◌, subst, inl, inr, arith, eqb-true}
-use Rattle.pg_threat.proofs.Common.{cases_Bool, cases_eq, cases_lt, false≢true, FinSet, contains, empty, contains-empty, nat_cmp, IsLeastFrom, ShareNone, Side, Game, Position, is_free, lines_of, point_count, after, is_over, IsPosition, depth_of, may_attack, ComesFirst, IsAttack, LeadsToLine, IsAttacking, IsThreatLine, AreDeeper, point_count-le, Near, near-from, near-to, near-range, near-stays, near-filling, IsForced, attacking-after, unfilled-going}
+use Rattle.std.proofs.Common.{◌≡◌, ◌≢◌, ℕ, ◌+◌, ◌-◌, ◌*◌, ◌<◌, ◌≤◌, true, false, List, [], ◌∷◌}
+use Rattle.std.proofs.Common.{length, refl, sym, ap, ◌∙◌, subst, inl, inr, arith, eqb-true}
+use Rattle.pg_threat.proofs.Common.{cases_Bool, cases_eq, cases_lt, false≢true, FinSet, contains}
+use Rattle.pg_threat.proofs.Common.{empty, contains-empty, nat_cmp, IsLeastFrom, ShareNone, Side}
+use Rattle.pg_threat.proofs.Common.{Game, Position, is_free, lines_of, point_count, after, is_over}
+use Rattle.pg_threat.proofs.Common.{IsPosition, depth_of, may_attack, ComesFirst, IsAttack}
+use Rattle.pg_threat.proofs.Common.{LeadsToLine, IsAttacking, IsThreatLine, AreDeeper}
+use Rattle.pg_threat.proofs.Common.{point_count-le, Near, near-from, near-to, near-range}
+use Rattle.pg_threat.proofs.Common.{near-stays, near-filling, IsForced, attacking-after}
+use Rattle.pg_threat.proofs.Common.{unfilled-going}
 use Rattle.pg_threat.specs.declared.line.ThreatLine.{ThreatLine}
 use Rattle.pg_threat.specs.Lacking.{is_lacking, is_partner, IsLackedTwice, come_to, left_to}
-use Rattle.pg_threat.specs.Search.{Begins, points_of_line, IsFirstOf, NoneBelow, IsFound, IsAnswering, Replied, IsTried, IsSearching}
+use Rattle.pg_threat.specs.Search.{Begins, points_of_line, IsFirstOf, NoneBelow, IsFound}
+use Rattle.pg_threat.specs.Search.{IsAnswering, Replied, IsTried, IsSearching}
 use Rattle.pg_threat.specs.Forced.{IsAnswer}
 use Rattle.pg_threat.proofs.LineCounts.{one-lacked, one-near, lacking-free}
 use Rattle.pg_threat.proofs.Partners.{partner-lacking}
-use Rattle.pg_threat.proofs.Attacks.{fork-twice, filling-near, none-near, near-was, answering-after, leads-length, replied-length, replied-depth, attack-depth, replied-leads, leads-tried}
+use Rattle.pg_threat.proofs.Attacks.{fork-twice, filling-near, none-near, near-was, answering-after}
+use Rattle.pg_threat.proofs.Attacks.{leads-length, replied-length, replied-depth, attack-depth}
+use Rattle.pg_threat.proofs.Attacks.{replied-leads, leads-tried}
 
 -- the list that was found is this one
 pub found-as : (P : List ℕ → Type 0) (depth : ℕ) (t : ThreatLine) (points : List ℕ)

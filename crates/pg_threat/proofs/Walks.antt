@@ -1,7 +1,11 @@
 -- The lines without a point of a side, one after the other.
 use Rattle.std.specs.Prelude.{Option, Some, None}
-use Rattle.std.proofs.Common.{◌≡◌, ℕ, zero, suc, ◌+◌, ◌<◌, ◌≤◌, Bool, true, false, ◌&&◌, List, [], ◌∷◌, length, ltb, refl, sym, ap, ◌∙◌, subst, inl, inr, arith}
-use Rattle.pg_threat.proofs.Common.{cases_Bool, cases_eq, and_parts, false≢true, lt-ltb, ltb-true, length-range_with_len, get_or-range_with_len, Contains, find, range_with_len, slice_get, Side, Game, Position, lines_of, find_both, Contains-filter, live_lines, line_at}
+use Rattle.std.proofs.Common.{◌≡◌, ℕ, zero, suc, ◌+◌, ◌<◌, ◌≤◌, Bool, true, false, ◌&&◌, List, []}
+use Rattle.std.proofs.Common.{◌∷◌, length, ltb, refl, sym, ap, ◌∙◌, subst, inl, inr, arith}
+use Rattle.pg_threat.proofs.Common.{cases_Bool, cases_eq, and_parts, false≢true, lt-ltb, ltb-true}
+use Rattle.pg_threat.proofs.Common.{length-range_with_len, get_or-range_with_len, Contains, find}
+use Rattle.pg_threat.proofs.Common.{range_with_len, slice_get, Side, Game, Position, lines_of}
+use Rattle.pg_threat.proofs.Common.{find_both, Contains-filter, live_lines, line_at}
 use Rattle.pg_threat.specs.Lacking.{is_live, IsNextLive}
 
 -- ---- the first number of a range that passes

@@ -1,6 +1,9 @@
 -- The free points of lines of which a side lacks few points.
-use Rattle.std.specs.Prelude.{◌≡◌, ℕ, ◌+◌, ◌-◌, ◌<◌, ◌≤◌, ◌==◌, Bool, true, false, not, ◌&&◌, List, length, take, Option, Some, None}
-use Rattle.pg_threat.specs.Prelude.{Contains, list_any, count_by, FinSet, contains, nat_cmp, other, MakerMaker, Side, Game, Position, is_free, points_of, lines_of, is_touched, is_on, line_at}
+use Rattle.std.specs.Prelude.{◌≡◌, ℕ, ◌+◌, ◌-◌, ◌<◌, ◌≤◌, ◌==◌, Bool, true, false, not, ◌&&◌, List}
+use Rattle.std.specs.Prelude.{length, take, Option, Some, None}
+use Rattle.pg_threat.specs.Prelude.{Contains, list_any, count_by, FinSet, contains, nat_cmp, other}
+use Rattle.pg_threat.specs.Prelude.{MakerMaker, Side, Game, Position, is_free, points_of, lines_of}
+use Rattle.pg_threat.specs.Prelude.{is_touched, is_on, line_at}
 
 -- whether the side has no point of the line
 abbrev pub is_live : Position → Side → List ℕ → Bool

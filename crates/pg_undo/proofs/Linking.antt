@@ -1,11 +1,15 @@
 -- A place that is unlinked, and linked again.
-use Rattle.std.proofs.Common.{◌≡◌, ◌≢◌, ℕ, zero, suc, ◌+◌, ◌-◌, ◌<◌, ◌≤◌, Bool, true, false, ◌||◌, List, [], ◌∷◌, length, get_or, set, eqb, refl, sym, ap, ◌∙◌, inl, inr, arith, subst}
-use Rattle.std.proofs.lemmas.Bool.{cases_Bool, cases_eq, false≢true, or_left, or_right, or_cases, or_from, eq-eqb, ne_eqb, eqb-true, and_left}
+use Rattle.std.proofs.Common.{◌≡◌, ◌≢◌, ℕ, zero, suc, ◌+◌, ◌-◌, ◌<◌, ◌≤◌, Bool, true, false, ◌||◌}
+use Rattle.std.proofs.Common.{List, [], ◌∷◌, length, get_or, set, eqb, refl, sym, ap, ◌∙◌, inl, inr}
+use Rattle.std.proofs.Common.{arith, subst}
+use Rattle.std.proofs.lemmas.Bool.{cases_Bool, cases_eq, false≢true, or_left, or_right, or_cases}
+use Rattle.std.proofs.lemmas.Bool.{or_from, eq-eqb, ne_eqb, eqb-true, and_left}
 use Rattle.std.specs.List.{Contains}
 use Rattle.pg_undo.specs.Links.{history}
 use Rattle.pg_undo.specs.Ring.{present}
 use Rattle.pg_undo.proofs.Histories.{member-at, some-room}
-use Rattle.std.proofs.lemmas.List.{get_or_read, length-set, get_or-set_same, get_or-set_other, set-set, set-get_or}
+use Rattle.std.proofs.lemmas.List.{get_or_read, length-set, get_or-set_same, get_or-set_other}
+use Rattle.std.proofs.lemmas.List.{set-set, set-get_or}
 use Rattle.pg_base.specs.Sets.{minus}
 use Rattle.pg_base.proofs.SetLemmas.{minus_same, minus_self, minus_parts}
 use Rattle.pg_undo.specs.Links.{slot, stands, Follows, AreLinked, AreLinks, IsOut, is_left}

@@ -1,5 +1,6 @@
 -- How the arrays of a ring stand for its lists.
-use Rattle.std.specs.Prelude.{◌≡◌, ℕ, zero, suc, ◌+◌, ◌<◌, ◌≤◌, Bool, true, false, ◌||◌, ◌==◌, List, [], ◌∷◌, ◌++◌, length, get_or, set}
+use Rattle.std.specs.Prelude.{◌≡◌, ℕ, zero, suc, ◌+◌, ◌<◌, ◌≤◌, Bool, true, false, ◌||◌, ◌==◌, List}
+use Rattle.std.specs.Prelude.{[], ◌∷◌, ◌++◌, length, get_or, set}
 use Rattle.std.specs.List.{range_with_len}
 use Rattle.pg_base.specs.Sets.{minus}
 use Rattle.pg_undo.specs.Ring.{without}

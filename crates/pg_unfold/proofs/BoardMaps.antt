@@ -1,6 +1,7 @@
 -- What maps of a board do to all numbers that a set can hold.
 use Rattle.std.proofs.Common.{◌*◌, ◌≤◌, Option, Some, None, refl, ap, ◌∙◌, inl, inr, arith}
-use Rattle.pg_unfold.proofs.Common.{cases_lt, Grid, IsMapOf, image_of, reverse_of, AreInverse, image_on, GridMap}
+use Rattle.pg_unfold.proofs.Common.{cases_lt, Grid, IsMapOf, image_of, reverse_of, AreInverse}
+use Rattle.pg_unfold.proofs.Common.{image_on, GridMap}
 use Rattle.pg_maps.proofs.Turning.{AreInverse-map, image-beyond}
 use Rattle.pg_unfold.specs.Marks.{IsBoardMap}
 

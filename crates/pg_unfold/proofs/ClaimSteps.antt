@@ -1,12 +1,18 @@
 -- A sound claim, unfolded.
-use Rattle.std.proofs.Common.{◌≡◌, ℕ, zero, suc, ◌-◌, ◌<◌, ◌≤◌, Bool, true, List, [], ◌∷◌, map, length, get_or, refl, sym, ap, subst, inl, inr, arith}
-use Rattle.pg_unfold.proofs.Common.{AllZip, Contains, cases_lt, All-cons, All-nil, All-contains, slice_get_within, slice_get-get_or, IsNode, Claim, Node, Game, Contains-head, Contains-tail, IsImageNode, IsImageClaim, ImageClaim, ImageNode, Plain, Image, identity, Fits, board_of, Fits-identity, Fits-followed, cells, IsMarked}
+use Rattle.std.proofs.Common.{◌≡◌, ℕ, zero, suc, ◌-◌, ◌<◌, ◌≤◌, Bool, true, List, [], ◌∷◌, map}
+use Rattle.std.proofs.Common.{length, get_or, refl, sym, ap, subst, inl, inr, arith}
+use Rattle.pg_unfold.proofs.Common.{AllZip, Contains, cases_lt, All-cons, All-nil, All-contains}
+use Rattle.pg_unfold.proofs.Common.{slice_get_within, slice_get-get_or, IsNode, Claim, Node, Game}
+use Rattle.pg_unfold.proofs.Common.{Contains-head, Contains-tail, IsImageNode, IsImageClaim}
+use Rattle.pg_unfold.proofs.Common.{ImageClaim, ImageNode, Plain, Image, identity, Fits, board_of}
+use Rattle.pg_unfold.proofs.Common.{Fits-identity, Fits-followed, cells, IsMarked}
 use Rattle.std.specs.List.{All as Each}
 use Rattle.pg_game.proofs.Limits.{point_count-le}
 use Rattle.pg_unfold.specs.Copies.{Copy, LeadsTo, IsMet, IsMetBy, AreCopies}
 use Rattle.pg_unfold.specs.Flaws.{IsSoundClaim, HasUsable, HasSize}
 use Rattle.pg_unfold.specs.Gathered.{IsTaken, IsTooMuch}
-use Rattle.pg_unfold.specs.Marks.{key_of, copy_at, AreEarlier, AreMet, ArePlaces, IsBoardMap, AreBoardMaps, copies_of}
+use Rattle.pg_unfold.specs.Marks.{key_of, copy_at, AreEarlier, AreMet, ArePlaces, IsBoardMap}
+use Rattle.pg_unfold.specs.Marks.{AreBoardMaps, copies_of}
 use Rattle.pg_unfold.specs.Unfolded.{BecomesUnder, IsCopied}
 use Rattle.pg_unfold.specs.declared.flaw.Flaw.TheVariants as flaws
 use Rattle.pg_unfold.proofs.CopyLimits.{IsNode-image}

@@ -1,6 +1,10 @@
 -- Claims that are unfolded one after the other.
-use Rattle.std.proofs.Common.{◌≡◌, ℕ, ◌+◌, ◌≤◌, true, List, [], ◌∷◌, ◌++◌, map, length, sum, Some, slice_get, take, suc, refl, sym, ap, ◌∙◌, subst, arith}
-use Rattle.pg_unfold.proofs.Common.{map_push, All-push, All-nil, sum_by_push, IsClaim, IsOfVersion, IsWithinLimits, has_body, node_count, Cert, Claim, Two, Body, Game, IsImageWithinLimits, ImageCert, ImageClaim, board_of, sum-through}
+use Rattle.std.proofs.Common.{◌≡◌, ℕ, ◌+◌, ◌≤◌, true, List, [], ◌∷◌, ◌++◌, map, length, sum, Some}
+use Rattle.std.proofs.Common.{slice_get, take, suc, refl, sym, ap, ◌∙◌, subst, arith}
+use Rattle.pg_unfold.proofs.Common.{map_push, All-push, All-nil, sum_by_push, IsClaim, IsOfVersion}
+use Rattle.pg_unfold.proofs.Common.{IsWithinLimits, has_body, node_count, Cert, Claim, Two, Body}
+use Rattle.pg_unfold.proofs.Common.{Game, IsImageWithinLimits, ImageCert, ImageClaim, board_of}
+use Rattle.pg_unfold.proofs.Common.{sum-through}
 use Rattle.std.specs.List.{All as Each}
 use Rattle.pg_cert.specs.declared.cert.Version.{Version}
 use Rattle.pg_unfold.specs.Flaws.{HasSize, HaveRoom, IsFirstTooLarge}

@@ -1,6 +1,14 @@
 -- Images of nodes within the limits of the format are within them.
-use Rattle.std.proofs.Common.{◌≡◌, ℕ, ◌%◌, ◌<◌, true, false, List, [], ◌∷◌, map, Option, eqb, eqb-true, sym, ap, ◌∙◌, subst, inl, inr, arith}
-use Rattle.pg_unfold.proofs.Common.{FinSet, contains, AllZip, nat_cmp, cases_Bool, length-map, All-cons, All-head, All-tail, All-weaker, All-map, All-nil, All-permutation, members, Grid, Side, ArePoints, IsReply, IsPair, IsBody, IsTurn, IsNode, position_of, Body, Over, Move, Pairs, Potential, Trees, Cuts, Threat, Weaker, Node, Reply, Position, member-from_any, reverse_of, AreInverse, image_on, image_pair, image_position, image_set, GridMap, Contains-map-from, of_member, in_image}
+use Rattle.std.proofs.Common.{◌≡◌, ℕ, ◌%◌, ◌<◌, true, false, List, [], ◌∷◌, map, Option, eqb}
+use Rattle.std.proofs.Common.{eqb-true, sym, ap, ◌∙◌, subst, inl, inr, arith}
+use Rattle.pg_unfold.proofs.Common.{FinSet, contains, AllZip, nat_cmp, cases_Bool, length-map}
+use Rattle.pg_unfold.proofs.Common.{All-cons, All-head, All-tail, All-weaker, All-map, All-nil}
+use Rattle.pg_unfold.proofs.Common.{All-permutation, members, Grid, Side, ArePoints, IsReply}
+use Rattle.pg_unfold.proofs.Common.{IsPair, IsBody, IsTurn, IsNode, position_of, Body, Over, Move}
+use Rattle.pg_unfold.proofs.Common.{Pairs, Potential, Trees, Cuts, Threat, Weaker, Node, Reply}
+use Rattle.pg_unfold.proofs.Common.{Position, member-from_any, reverse_of, AreInverse, image_on}
+use Rattle.pg_unfold.proofs.Common.{image_pair, image_position, image_set, GridMap}
+use Rattle.pg_unfold.proofs.Common.{Contains-map-from, of_member, in_image}
 use Rattle.std.specs.List.{All as Each}
 use Rattle.pg_cert.specs.declared.node.Body.TheVariants.{All}
 use Rattle.pg_unfold.specs.Marks.{IsBoardMap}

@@ -1,9 +1,14 @@
 -- The copies of nodes, one after the other.
-use Rattle.std.proofs.Common.{◌≡◌, ℕ, suc, ◌+◌, ◌/◌, ◌%◌, Bool, false, List, [], ◌∷◌, ◌++◌, map, Option, Some, slice_get, refl, sym, ap, ◌∙◌, subst, add-one}
-use Rattle.pg_unfold.proofs.Common.{AllZip, Contains, map_push, Grid, position_of, Body, Over, Move, Pairs, Potential, Trees, Cuts, Threat, Weaker, Node, Reply, Contains-head, Contains-tail, ImageNode, Plain, numbered, number_of, image_on, image_position, IsMarked}
+use Rattle.std.proofs.Common.{◌≡◌, ℕ, suc, ◌+◌, ◌/◌, ◌%◌, Bool, false, List, [], ◌∷◌, ◌++◌, map}
+use Rattle.std.proofs.Common.{Option, Some, slice_get, refl, sym, ap, ◌∙◌, subst, add-one}
+use Rattle.pg_unfold.proofs.Common.{AllZip, Contains, map_push, Grid, position_of, Body, Over, Move}
+use Rattle.pg_unfold.proofs.Common.{Pairs, Potential, Trees, Cuts, Threat, Weaker, Node, Reply}
+use Rattle.pg_unfold.proofs.Common.{Contains-head, Contains-tail, ImageNode, Plain, numbered}
+use Rattle.pg_unfold.proofs.Common.{number_of, image_on, image_position, IsMarked}
 use Rattle.pg_cert.specs.declared.node.Body.TheVariants.{All}
 use Rattle.pg_unfold.specs.Copies.{Copy, NamesChild, IsPlaced}
-use Rattle.pg_unfold.specs.Marks.{copy_at, key_of, AreMet, ArePlaces, IsPlaceOf, copies_below, copies_of, is_kept}
+use Rattle.pg_unfold.specs.Marks.{copy_at, key_of, AreMet, ArePlaces, IsPlaceOf, copies_below}
+use Rattle.pg_unfold.specs.Marks.{copies_of, is_kept}
 use Rattle.pg_unfold.specs.Unfolded.{IsReplyImage, IsBodyImage, BecomesUnder, IsCopied}
 use Rattle.pg_unfold.proofs.Keys.{copy_at-key}
 use Rattle.pg_unfold.proofs.Placing.{kept-at, below-kept, below-left}

@@ -1,9 +1,11 @@
 -- A faultless certificate has no first fault, and any other has one at most.
-use Rattle.std.proofs.Common.{◌≡◌, ℕ, zero, suc, ◌<◌, List, [], ◌∷◌, length, take, Some, slice_get, refl, sym, ap, ◌∙◌, subst, inl, inr, arith}
+use Rattle.std.proofs.Common.{◌≡◌, ℕ, zero, suc, ◌<◌, List, [], ◌∷◌, length, take, Some, slice_get}
+use Rattle.std.proofs.Common.{refl, sym, ap, ◌∙◌, subst, inl, inr, arith}
 use Rattle.pg_unfold.proofs.Common.{AllZip, cases_order, Game, ImageCert, ImageClaim, ImageNode}
 use Rattle.pg_base.proofs.Stands.{in_take}
 use Rattle.pg_unfold.specs.Flaw.{flaw_number}
-use Rattle.pg_unfold.specs.Flaws.{AreSound, HasSize, IsFaultless, IsFirstFault, IsFirstFlaw, IsFirstIn, IsFirstTooLarge, IsLeastFlaw, IsSoundClaim}
+use Rattle.pg_unfold.specs.Flaws.{AreSound, HasSize, IsFaultless, IsFirstFault, IsFirstFlaw}
+use Rattle.pg_unfold.specs.Flaws.{IsFirstIn, IsFirstTooLarge, IsLeastFlaw, IsSoundClaim}
 use Rattle.pg_unfold.specs.declared.flaw.Flaw.{Flaw}
 use Rattle.pg_unfold.proofs.Sizes.{all_at, fault_excludes, too_large}
 

@@ -1,6 +1,10 @@
 -- From one copy of a node to those to which it leads, by their places in the table.
-use Rattle.std.proofs.Common.{◌≡◌, ℕ, ◌+◌, ◌*◌, ◌/◌, ◌%◌, ◌<◌, Bool, true, List, length, map, set, Some, slice_get, sym, ap, ◌∙◌, subst, arith}
-use Rattle.pg_unfold.proofs.Common.{FinSet, nat_cmp, All-contains, All-map, Side, NamesEarlier, Body, Over, Move, Pairs, Potential, Trees, Cuts, Threat, Weaker, Node, ImageNode, Plain, Image, numbered, number_of, followed_by, GridMap, number-numbered}
+use Rattle.std.proofs.Common.{◌≡◌, ℕ, ◌+◌, ◌*◌, ◌/◌, ◌%◌, ◌<◌, Bool, true, List, length, map, set}
+use Rattle.std.proofs.Common.{Some, slice_get, sym, ap, ◌∙◌, subst, arith}
+use Rattle.pg_unfold.proofs.Common.{FinSet, nat_cmp, All-contains, All-map, Side, NamesEarlier}
+use Rattle.pg_unfold.proofs.Common.{Body, Over, Move, Pairs, Potential, Trees, Cuts, Threat, Weaker}
+use Rattle.pg_unfold.proofs.Common.{Node, ImageNode, Plain, Image, numbered, number_of, followed_by}
+use Rattle.pg_unfold.proofs.Common.{GridMap, number-numbered}
 use Rattle.pg_cert.specs.declared.node.Body.TheVariants.{All}
 use Rattle.pg_unfold.specs.Copies.{Copy, NamesChild, LeadsTo}
 use Rattle.pg_unfold.specs.Flaws.{HasEarlier}

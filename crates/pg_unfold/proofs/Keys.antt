@@ -1,6 +1,7 @@
 -- The places of copies in a table of eight for each node.
 use Rattle.std.proofs.Common.{◌≡◌, ℕ, ◌+◌, ◌*◌, ◌/◌, ◌%◌, ◌<◌, ap, ◌∙◌, arith}
-use Rattle.pg_unfold.proofs.Common.{numbered, number_of, number-numbered, numbered-number, number-few}
+use Rattle.pg_unfold.proofs.Common.{numbered, number_of, number-numbered, numbered-number}
+use Rattle.pg_unfold.proofs.Common.{number-few}
 use Rattle.pg_unfold.specs.Copies.{Copy}
 use Rattle.pg_unfold.specs.Marks.{key_of, copy_at}
 

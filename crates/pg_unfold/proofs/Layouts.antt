@@ -1,15 +1,19 @@
 -- Claims that are laid out, and the nodes of their unfoldings.
-use Rattle.std.proofs.Common.{◌≡◌, ℕ, ◌+◌, ◌<◌, ◌≤◌, List, [], ◌∷◌, ◌++◌, length, Some, None, Option, sym, ap, ◌∙◌, subst, arith}
-use Rattle.pg_unfold.proofs.Common.{AllZip, Contains, All-nil, All-push, All-weaker, sum_by_push, IsNode, Claim, Node, Game, ImageClaim, Plain, board_of}
+use Rattle.std.proofs.Common.{◌≡◌, ℕ, ◌+◌, ◌<◌, ◌≤◌, List, [], ◌∷◌, ◌++◌, length, Some, None}
+use Rattle.std.proofs.Common.{Option, sym, ap, ◌∙◌, subst, arith}
+use Rattle.pg_unfold.proofs.Common.{AllZip, Contains, All-nil, All-push, All-weaker, sum_by_push}
+use Rattle.pg_unfold.proofs.Common.{IsNode, Claim, Node, Game, ImageClaim, Plain, board_of}
 use Rattle.std.specs.List.{sum_by}
 use Rattle.pg_unfold.specs.Flaws.{AreSound, HasSize, IsSoundClaim}
 use Rattle.pg_unfold.specs.Gathered.{AreCounted, IsTaken}
-use Rattle.pg_unfold.specs.Layouts.{AreCopiedBelow, AreLaid, IsLaidNext, IsLaidOut, IsNextCopy, copies_in, copy_count, origins_in, size_in, with_next}
+use Rattle.pg_unfold.specs.Layouts.{AreCopiedBelow, AreLaid, IsLaidNext, IsLaidOut, IsNextCopy}
+use Rattle.pg_unfold.specs.Layouts.{copies_in, copy_count, origins_in, size_in, with_next}
 use Rattle.pg_unfold.specs.Marks.{AreAllEarlier, AreEarlier, copies_below, copy_at}
 use Rattle.pg_unfold.specs.Unfolded.{IsCopied}
 use Rattle.pg_unfold.specs.declared.laying.Laid.{Laid}
 use Rattle.pg_unfold.specs.declared.layout.Layout.{Layout}
-use Rattle.pg_unfold.proofs.ClaimSteps.{AreEarlier-sound, HasSize-of, copy-limits, some-copies, taken-from, zip-length}
+use Rattle.pg_unfold.proofs.ClaimSteps.{AreEarlier-sound, HasSize-of, copy-limits, some-copies}
+use Rattle.pg_unfold.proofs.ClaimSteps.{taken-from, zip-length}
 use Rattle.pg_unfold.proofs.CopySteps.{push-zip, zip-left, zip-more}
 use Rattle.pg_unfold.proofs.Placing.{AreCopies-of, below-more}
 use Rattle.pg_unfold.proofs.Rooms.{counted-more, counted-none}

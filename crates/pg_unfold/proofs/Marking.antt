@@ -1,6 +1,8 @@
 -- Marks that are added to a table.
-use Rattle.std.proofs.Common.{◌≡◌, ◌⊎◌, ℕ, zero, suc, ◌+◌, ◌*◌, ◌/◌, ◌%◌, ◌<◌, Bool, true, List, [], ◌∷◌, ◌++◌, length, set, refl, sym, ap, subst, inl, inr, arith}
-use Rattle.pg_unfold.proofs.Common.{Contains, Contains-append_left, Contains-push, Contains-push_cases, IsMarked}
+use Rattle.std.proofs.Common.{◌≡◌, ◌⊎◌, ℕ, zero, suc, ◌+◌, ◌*◌, ◌/◌, ◌%◌, ◌<◌, Bool, true, List, []}
+use Rattle.std.proofs.Common.{◌∷◌, ◌++◌, length, set, refl, sym, ap, subst, inl, inr, arith}
+use Rattle.pg_unfold.proofs.Common.{Contains, Contains-append_left, Contains-push}
+use Rattle.pg_unfold.proofs.Common.{Contains-push_cases, IsMarked}
 use Rattle.pg_unfold.specs.Marks.{AreAdded}
 use Rattle.pg_unfold.proofs.Keys.{key-node, key-map}
 

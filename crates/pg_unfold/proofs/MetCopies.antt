@@ -1,6 +1,8 @@
 -- One pass from the root down marks exactly the copies that are met.
-use Rattle.std.proofs.Common.{◌≡◌, ℕ, zero, suc, ◌+◌, ◌*◌, ◌-◌, ◌%◌, ◌<◌, Bool, true, false, List, length, set, replicate, sym, ap, ◌∙◌, subst, inl, inr, arith}
-use Rattle.pg_unfold.proofs.Common.{cases_lt, length-set, length-replicate, slice_get_within, ImageNode, numbered, number_of, IsMarked}
+use Rattle.std.proofs.Common.{◌≡◌, ℕ, zero, suc, ◌+◌, ◌*◌, ◌-◌, ◌%◌, ◌<◌, Bool, true, false, List}
+use Rattle.std.proofs.Common.{length, set, replicate, sym, ap, ◌∙◌, subst, inl, inr, arith}
+use Rattle.pg_unfold.proofs.Common.{cases_lt, length-set, length-replicate, slice_get_within}
+use Rattle.pg_unfold.proofs.Common.{ImageNode, numbered, number_of, IsMarked}
 use Rattle.pg_unfold.specs.Copies.{Copy, LeadsTo, IsAt, IsMetBy}
 use Rattle.pg_unfold.specs.Marks.{key_of, copy_at, AreAdded, Hands, AreEarlier, AreMet, HasPassed}
 use Rattle.pg_unfold.proofs.Keys.{copy_at-key}

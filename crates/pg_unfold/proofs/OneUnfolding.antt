@@ -1,9 +1,15 @@
 -- A certificate has one unfolding at most.
-use Rattle.std.proofs.Common.{◌≡◌, ℕ, zero, suc, ◌<◌, List, [], ◌∷◌, map, Some, slice_get, refl, sym, ap, ap₂, ◌∙◌, subst, inl, inr, arith}
-use Rattle.pg_unfold.proofs.Common.{AllPairs, AllZip, Contains, cases_order, Contains-permutation, IsPermutation-sym, slice_get_within, get_or_from_slice_get, position_of, Claim, Body, Over, Move, Pairs, Potential, Trees, Cuts, Threat, Weaker, Node, Reply, Game, ImageCert, ImageClaim, ImageNode, Plain, Image, board_of, image_on, image_position}
+use Rattle.std.proofs.Common.{◌≡◌, ℕ, zero, suc, ◌<◌, List, [], ◌∷◌, map, Some, slice_get, refl}
+use Rattle.std.proofs.Common.{sym, ap, ap₂, ◌∙◌, subst, inl, inr, arith}
+use Rattle.pg_unfold.proofs.Common.{AllPairs, AllZip, Contains, cases_order, Contains-permutation}
+use Rattle.pg_unfold.proofs.Common.{IsPermutation-sym, slice_get_within, get_or_from_slice_get}
+use Rattle.pg_unfold.proofs.Common.{position_of, Claim, Body, Over, Move, Pairs, Potential, Trees}
+use Rattle.pg_unfold.proofs.Common.{Cuts, Threat, Weaker, Node, Reply, Game, ImageCert, ImageClaim}
+use Rattle.pg_unfold.proofs.Common.{ImageNode, Plain, Image, board_of, image_on, image_position}
 use Rattle.pg_cert.specs.declared.node.Body.TheVariants.{All}
 use Rattle.pg_unfold.specs.Copies.{Copy, ComesBefore, IsAt, IsPlaced, IsPlain, SettlesBy, StandsFor}
-use Rattle.pg_unfold.specs.Unfolded.{AreReplyImages, AreUnfolded, BecomesUnder, IsBodyImage, IsCopied, IsReplyImage, IsUnfolded, IsUnfoldedCert}
+use Rattle.pg_unfold.specs.Unfolded.{AreReplyImages, AreUnfolded, BecomesUnder, IsBodyImage}
+use Rattle.pg_unfold.specs.Unfolded.{IsCopied, IsReplyImage, IsUnfolded, IsUnfoldedCert}
 use Rattle.pg_unfold.specs.declared.unfolded.Unfolded.{Unfolded}
 use Rattle.pg_unfold.proofs.Sizes.{copies_apart, copies_once, same_ascending}
 

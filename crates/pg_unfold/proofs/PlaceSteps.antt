@@ -1,9 +1,15 @@
 -- The table of places grows by one copy.
-use Rattle.std.proofs.Common.{◌≡◌, ℕ, suc, ◌+◌, ◌*◌, ◌/◌, ◌%◌, ◌<◌, Bool, true, false, cond, List, [], ◌∷◌, ◌++◌, length, get_or, Some, slice_get, sym, ap, ◌∙◌, subst, inl, inr, arith, add-one}
-use Rattle.pg_unfold.proofs.Common.{FinSet, nat_cmp, cases_Bool, both_ways, length-append, slice_get-get_or, get_or_from_slice_get, Side, Node, ImageNode, Plain, Image, numbered, number_of, followed_by, GridMap, IsMarked}
+use Rattle.std.proofs.Common.{◌≡◌, ℕ, suc, ◌+◌, ◌*◌, ◌/◌, ◌%◌, ◌<◌, Bool, true, false, cond, List}
+use Rattle.std.proofs.Common.{[], ◌∷◌, ◌++◌, length, get_or, Some, slice_get, sym, ap, ◌∙◌, subst}
+use Rattle.std.proofs.Common.{inl, inr, arith, add-one}
+use Rattle.pg_unfold.proofs.Common.{FinSet, nat_cmp, cases_Bool, both_ways, length-append}
+use Rattle.pg_unfold.proofs.Common.{slice_get-get_or, get_or_from_slice_get, Side, Node, ImageNode}
+use Rattle.pg_unfold.proofs.Common.{Plain, Image, numbered, number_of, followed_by, GridMap}
+use Rattle.pg_unfold.proofs.Common.{IsMarked}
 use Rattle.pg_unfold.specs.Copies.{IsPlaced}
 use Rattle.pg_unfold.specs.Marks.{copy_at, AreMet, copies_below, copies_of, ArePlacedBelow}
-use Rattle.pg_unfold.proofs.Placing.{at_push, kept-at, kept-unmarked, kept-image, below-kept, below-left, placed-plain, placed-image, marked-next}
+use Rattle.pg_unfold.proofs.Placing.{at_push, kept-at, kept-unmarked, kept-image, below-kept}
+use Rattle.pg_unfold.proofs.Placing.{below-left, placed-plain, placed-image, marked-next}
 
 module _ (nodes : List ImageNode) (marks : List Bool) (met : AreMet nodes marks)
     (places more : List ℕ) (key count : ℕ) (h : ArePlacedBelow nodes marks places key count) where

@@ -1,9 +1,17 @@
 -- The copies of plain nodes that are met, in order, and at which of them the others settle.
-use Rattle.std.proofs.Common.{◌≡◌, ◌⊎◌, ℕ, zero, suc, ◌+◌, ◌*◌, ◌/◌, ◌%◌, ◌<◌, ◌≤◌, Bool, true, false, cond, ◌&&◌, List, [], ◌∷◌, ◌++◌, length, get_or, Option, Some, None, slice_get, refl, sym, ap, ◌∙◌, subst, inl, inr, arith}
-use Rattle.pg_unfold.proofs.Common.{FinSet, AllPairs, Contains, nat_cmp, cases_Bool, cases_lt, and_parts, false≢true, Contains-get_or, Contains-push_cases, append-nil, length-append, slice_get_within, get_or_from_slice_get, Side, Node, ImageNode, Plain, Image, numbered, number_of, followed_by, GridMap, number-numbered, IsMarked}
+use Rattle.std.proofs.Common.{◌≡◌, ◌⊎◌, ℕ, zero, suc, ◌+◌, ◌*◌, ◌/◌, ◌%◌, ◌<◌, ◌≤◌, Bool, true}
+use Rattle.std.proofs.Common.{false, cond, ◌&&◌, List, [], ◌∷◌, ◌++◌, length, get_or, Option, Some}
+use Rattle.std.proofs.Common.{None, slice_get, refl, sym, ap, ◌∙◌, subst, inl, inr, arith}
+use Rattle.pg_unfold.proofs.Common.{FinSet, AllPairs, Contains, nat_cmp, cases_Bool, cases_lt}
+use Rattle.pg_unfold.proofs.Common.{and_parts, false≢true, Contains-get_or, Contains-push_cases}
+use Rattle.pg_unfold.proofs.Common.{append-nil, length-append, slice_get_within}
+use Rattle.pg_unfold.proofs.Common.{get_or_from_slice_get, Side, Node, ImageNode, Plain, Image}
+use Rattle.pg_unfold.proofs.Common.{numbered, number_of, followed_by, GridMap, number-numbered}
+use Rattle.pg_unfold.proofs.Common.{IsMarked}
 use Rattle.std.proofs.lemmas.List.Quantifiers.{all_pairs_push}
 use Rattle.pg_unfold.specs.Copies.{Copy, IsPlain, IsAt, IsMet, ComesBefore, AreCopies, IsPlaced}
-use Rattle.pg_unfold.specs.Marks.{key_of, copy_at, AreMet, is_plain, is_true, is_kept, copies_below, copies_of}
+use Rattle.pg_unfold.specs.Marks.{key_of, copy_at, AreMet, is_plain, is_true, is_kept, copies_below}
+use Rattle.pg_unfold.specs.Marks.{copies_of}
 use Rattle.pg_unfold.proofs.Keys.{copy_at-key}
 
 -- ---- elements of lists by their places

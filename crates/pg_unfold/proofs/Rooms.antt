@@ -1,5 +1,6 @@
 -- Claims whose nodes are counted one after the other.
-use Rattle.std.proofs.Common.{◌≡◌, ℕ, ◌+◌, ◌≤◌, List, [], ◌∷◌, ◌++◌, length, Some, slice_get, take, inl, inr, arith}
+use Rattle.std.proofs.Common.{◌≡◌, ℕ, ◌+◌, ◌≤◌, List, [], ◌∷◌, ◌++◌, length, Some, slice_get, take}
+use Rattle.std.proofs.Common.{inl, inr, arith}
 use Rattle.pg_unfold.proofs.Common.{cases_lt, All-push, All-nil, sum_by_push, ImageClaim}
 use Rattle.pg_unfold.specs.Flaws.{HasSize, HaveRoom, IsFirstTooLarge}
 use Rattle.pg_unfold.specs.Gathered.{AreCounted, IsTooMuch}

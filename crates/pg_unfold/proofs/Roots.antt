@@ -1,7 +1,13 @@
 -- The nodes of an unfolded claim that come from copies, and its last one.
-use Rattle.std.proofs.Common.{◌≡◌, ℕ, zero, suc, ◌+◌, ◌-◌, ◌<◌, true, List, [], ◌∷◌, length, get_or, Some, slice_get, refl, sym, ap, ◌∙◌, subst, inl, inr, arith}
+use Rattle.std.proofs.Common.{◌≡◌, ℕ, zero, suc, ◌+◌, ◌-◌, ◌<◌, true, List, [], ◌∷◌, length, get_or}
+use Rattle.std.proofs.Common.{Some, slice_get, refl, sym, ap, ◌∙◌, subst, inl, inr, arith}
 use Rattle.std.specs.Prelude.{option_map}
-use Rattle.pg_unfold.proofs.Common.{FinSet, contains, AllZip, Contains, nat_cmp, cases_lt, All-contains, Contains-get_or, slice_get-get_or, slice_get-map, slice_get_within, get_or_from_slice_get, ArePoints, position_of, Claim, Node, Game, IsImageNode, IsImageClaim, ImageClaim, Plain, number_of, identity, board_of, image_on, image_position, image_set, image_on-identity, image_set-from}
+use Rattle.pg_unfold.proofs.Common.{FinSet, contains, AllZip, Contains, nat_cmp, cases_lt}
+use Rattle.pg_unfold.proofs.Common.{All-contains, Contains-get_or, slice_get-get_or, slice_get-map}
+use Rattle.pg_unfold.proofs.Common.{slice_get_within, get_or_from_slice_get, ArePoints, position_of}
+use Rattle.pg_unfold.proofs.Common.{Claim, Node, Game, IsImageNode, IsImageClaim, ImageClaim, Plain}
+use Rattle.pg_unfold.proofs.Common.{number_of, identity, board_of, image_on, image_position}
+use Rattle.pg_unfold.proofs.Common.{image_set, image_on-identity, image_set-from}
 use Rattle.pg_unfold.specs.Copies.{Copy, IsMet, IsMetBy, ComesBefore}
 use Rattle.pg_unfold.specs.Flaws.{IsSoundClaim}
 use Rattle.pg_unfold.specs.Unfolded.{IsCopied, IsUnfolded, HasImage, HasRootAt}

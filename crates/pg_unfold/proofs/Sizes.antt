@@ -1,8 +1,13 @@
 -- A claim has one size unfolded, so a claim that is too large has no room.
-use Rattle.std.proofs.Common.{◌≡◌, ◌⊎◌, ℕ, zero, suc, ◌+◌, ◌<◌, ◌≤◌, List, [], ◌∷◌, length, sum, get_or, take, Some, slice_get, refl, sym, ap, ap₂, ◌∙◌, subst, inl, inr, arith}
-use Rattle.pg_unfold.proofs.Common.{All, AllPairs, AllZip, Contains, sum_by_more_le, slice_get_within, get_or_from_slice_get, MAX_CLAIM_NODES, MAX_NODES, Game, ImageCert, ImageClaim, ImageNode}
+use Rattle.std.proofs.Common.{◌≡◌, ◌⊎◌, ℕ, zero, suc, ◌+◌, ◌<◌, ◌≤◌, List, [], ◌∷◌, length, sum}
+use Rattle.std.proofs.Common.{get_or, take, Some, slice_get, refl, sym, ap, ap₂, ◌∙◌, subst, inl}
+use Rattle.std.proofs.Common.{inr, arith}
+use Rattle.pg_unfold.proofs.Common.{All, AllPairs, AllZip, Contains, sum_by_more_le}
+use Rattle.pg_unfold.proofs.Common.{slice_get_within, get_or_from_slice_get, MAX_CLAIM_NODES}
+use Rattle.pg_unfold.proofs.Common.{MAX_NODES, Game, ImageCert, ImageClaim, ImageNode}
 use Rattle.pg_unfold.specs.Copies.{Copy, AreCopies, ComesBefore}
-use Rattle.pg_unfold.specs.Flaws.{HasSize, HaveRoom, IsFaultless, IsFirstFault, IsFirstTooLarge, IsSoundClaim}
+use Rattle.pg_unfold.specs.Flaws.{HasSize, HaveRoom, IsFaultless, IsFirstFault, IsFirstTooLarge}
+use Rattle.pg_unfold.specs.Flaws.{IsSoundClaim}
 
 -- ---- members of lists
 

@@ -1,6 +1,10 @@
 -- The images of replies, sorted by their points, ascend.
-use Rattle.std.proofs.Common.{◌≡◌, ℕ, zero, suc, ◌+◌, ◌<◌, ◌≤◌, true, nat_le, List, [], ◌∷◌, map, length, get_or, leb-true, le-leb, refl, sym, ap, ◌∙◌, subst, arith}
-use Rattle.pg_unfold.proofs.Common.{All, AllPairs, AllZip, IsPermutation, IsSorted, IsSortedByKey, nat_cmp, is_lt, and_parts, and_from, All-cons, All-head, All-weaker, All-map, All-nil, IsPermutation-map, Reply, IsReply, AreInverse, image_line}
+use Rattle.std.proofs.Common.{◌≡◌, ℕ, zero, suc, ◌+◌, ◌<◌, ◌≤◌, true, nat_le, List, [], ◌∷◌, map}
+use Rattle.std.proofs.Common.{length, get_or, leb-true, le-leb, refl, sym, ap, ◌∙◌, subst, arith}
+use Rattle.pg_unfold.proofs.Common.{All, AllPairs, AllZip, IsPermutation, IsSorted, IsSortedByKey}
+use Rattle.pg_unfold.proofs.Common.{nat_cmp, is_lt, and_parts, and_from, All-cons, All-head}
+use Rattle.pg_unfold.proofs.Common.{All-weaker, All-map, All-nil, IsPermutation-map, Reply, IsReply}
+use Rattle.pg_unfold.proofs.Common.{AreInverse, image_line}
 use Rattle.std.proofs.lemmas.List.Kept.{AllPairs-cons}
 use Rattle.pg_text.specs.Text.{ascend_from}
 use Rattle.pg_maps.specs.Rows.{IsRow}

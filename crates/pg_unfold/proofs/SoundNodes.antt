@@ -1,6 +1,10 @@
 -- One node after the other is tried.
-use Rattle.std.proofs.Common.{◌≡◌, ◌↔◌, ℕ, ◌+◌, ◌≤◌, List, length, Option, Some, None, slice_get, sym, ap, ◌∙◌, subst, inl, inr, arith}
-use Rattle.pg_unfold.proofs.Common.{FinSet, Contains, nat_cmp, cases_lt, slice_get_within, none-some, Grid, Side, Game, Position, image_node_position, ImageClaim, ImageNode, Image, image_of, Fits, board_of, image_on, image_position, GridMap}
+use Rattle.std.proofs.Common.{◌≡◌, ◌↔◌, ℕ, ◌+◌, ◌≤◌, List, length, Option, Some, None, slice_get}
+use Rattle.std.proofs.Common.{sym, ap, ◌∙◌, subst, inl, inr, arith}
+use Rattle.pg_unfold.proofs.Common.{FinSet, Contains, nat_cmp, cases_lt, slice_get_within}
+use Rattle.pg_unfold.proofs.Common.{none-some, Grid, Side, Game, Position, image_node_position}
+use Rattle.pg_unfold.proofs.Common.{ImageClaim, ImageNode, Image, image_of, Fits, board_of}
+use Rattle.pg_unfold.proofs.Common.{image_on, image_position, GridMap}
 use Rattle.pg_unfold.specs.Flaws.{AreUsable, HasMarks, IsSound, AreSoundBefore, IsSoundClaim}
 
 -- the maps that fit a game with a board are those that are usable

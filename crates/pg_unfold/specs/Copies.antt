@@ -1,7 +1,8 @@
 -- A node under a map is a copy of it: which copies are met from a claim's root, and at which copy
 -- of a plain node one settles.
 use Rattle.std.specs.Prelude.{◌≡◌, ℕ, zero, suc, ◌+◌, ◌<◌, ◌⊎◌, List, length, map, slice_get, Some}
-use Rattle.pg_unfold.specs.Prelude.{AllPairs, Contains, Body, Move, Weaker, ImageNode, Plain, Image, GridMap, number_of, identity, followed_by}
+use Rattle.pg_unfold.specs.Prelude.{AllPairs, Contains, Body, Move, Weaker, ImageNode, Plain, Image}
+use Rattle.pg_unfold.specs.Prelude.{GridMap, number_of, identity, followed_by}
 use Rattle.pg_cert.specs.declared.node.Body.TheVariants.{All}
 
 -- the node of that number under the map

@@ -1,7 +1,12 @@
 -- When a node of a certificate with turned and reflected nodes is faulty, and when a claim of it is
 -- too large unfolded.
-use Rattle.std.specs.Prelude.{◌≡◌, ℕ, ◌+◌, ◌<◌, ◌≤◌, ◌↔◌, ◌⊎◌, List, length, slice_get, Some, sum, take}
-use Rattle.pg_unfold.specs.Prelude.{All, AllZip, Contains, AreBelow, Grid, position_of, NamesEarlier, MAX_CLAIM_NODES, MAX_NODES, Game, Position, ImageCert, ImageClaim, ImageNode, Plain, Image, image_node_position, Fits, board_of, image_on, image_position, GridMap}
+use Rattle.std.specs.Prelude.{◌≡◌, ℕ, ◌+◌, ◌<◌, ◌≤◌, ◌↔◌, ◌⊎◌, List, length, slice_get, Some, sum}
+use Rattle.std.specs.Prelude.{take}
+use Rattle.pg_unfold.specs.Prelude.{All, AllZip, Contains, AreBelow, Grid, position_of}
+use Rattle.pg_unfold.specs.Prelude.{NamesEarlier, MAX_CLAIM_NODES, MAX_NODES, Game, Position}
+use Rattle.pg_unfold.specs.Prelude.{ImageCert, ImageClaim, ImageNode, Plain, Image}
+use Rattle.pg_unfold.specs.Prelude.{image_node_position, Fits, board_of, image_on, image_position}
+use Rattle.pg_unfold.specs.Prelude.{GridMap}
 use Rattle.pg_game.specs.Game.{point_count}
 use Rattle.pg_unfold.specs.Copies.{Copy, AreCopies}
 use Rattle.pg_unfold.specs.Flaw.{flaw_number}

@@ -1,6 +1,8 @@
 -- What is gathered while claims are unfolded one after the other.
-use Rattle.std.specs.Prelude.{◌≡◌, ℕ, ◌+◌, ◌<◌, ◌≤◌, ◌⊎◌, List, [], ◌∷◌, ◌++◌, length, map, sum, Option, Some, None, Result, Ok, Err}
-use Rattle.pg_unfold.specs.Prelude.{All, AllZip, IsClaim, Claim, MAX_CLAIM_NODES, MAX_NODES, Game, ImageClaim}
+use Rattle.std.specs.Prelude.{◌≡◌, ℕ, ◌+◌, ◌<◌, ◌≤◌, ◌⊎◌, List, [], ◌∷◌, ◌++◌, length, map, sum}
+use Rattle.std.specs.Prelude.{Option, Some, None, Result, Ok, Err}
+use Rattle.pg_unfold.specs.Prelude.{All, AllZip, IsClaim, Claim, MAX_CLAIM_NODES, MAX_NODES, Game}
+use Rattle.pg_unfold.specs.Prelude.{ImageClaim}
 use Rattle.pg_unfold.specs.Flaws.{HasSize, IsFirstTooLarge}
 use Rattle.pg_unfold.specs.Unfolded.{IsUnfolded, AreUnfolded}
 use Rattle.pg_unfold.specs.declared.unfolded.ImageFault.{ImageFault}

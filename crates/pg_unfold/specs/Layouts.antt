@@ -1,7 +1,10 @@
 -- What is known of an unfolding before any node of it is made: which copies are met, and where they
 -- settle.
-use Rattle.std.specs.Prelude.{◌≡◌, ℕ, ◌+◌, ◌/◌, ◌≤◌, Bool, false, List, [], ◌∷◌, ◌++◌, length, map, sum_by, slice_get, Option, Some, None, Result, Ok, Err}
-use Rattle.pg_unfold.specs.Prelude.{All, AllZip, IsMarked, Grid, IsNode, Node, MAX_CLAIM_NODES, MAX_NODES, Game, IsImageClaim, ImageCert, ImageClaim, ImageNode, Plain, board_of}
+use Rattle.std.specs.Prelude.{◌≡◌, ℕ, ◌+◌, ◌/◌, ◌≤◌, Bool, false, List, [], ◌∷◌, ◌++◌, length, map}
+use Rattle.std.specs.Prelude.{sum_by, slice_get, Option, Some, None, Result, Ok, Err}
+use Rattle.pg_unfold.specs.Prelude.{All, AllZip, IsMarked, Grid, IsNode, Node, MAX_CLAIM_NODES}
+use Rattle.pg_unfold.specs.Prelude.{MAX_NODES, Game, IsImageClaim, ImageCert, ImageClaim, ImageNode}
+use Rattle.pg_unfold.specs.Prelude.{Plain, board_of}
 use Rattle.pg_unfold.specs.Copies.{Copy}
 use Rattle.pg_unfold.specs.Flaws.{IsFirstTooLarge}
 use Rattle.pg_unfold.specs.Gathered.{AreCounted, IsFull, IsTooMuch}

@@ -1,7 +1,10 @@
 -- The table of marks in which an unfolding notes what is met: eight places for each node, one for
 -- each map.
-use Rattle.std.specs.Prelude.{◌≡◌, ℕ, zero, suc, ◌+◌, ◌*◌, ◌-◌, ◌/◌, ◌%◌, ◌≤◌, ◌⊎◌, Bool, true, false, ◌&&◌, List, [], ◌∷◌, ◌++◌, length, slice_get, Option, Some, None, if◌then◌else◌}
-use Rattle.pg_unfold.specs.Prelude.{All, IsMarked, Grid, Body, ImageClaim, ImageNode, Plain, Image, numbered, number_of, IsMapOn, GridMap}
+use Rattle.std.specs.Prelude.{◌≡◌, ℕ, zero, suc, ◌+◌, ◌*◌, ◌-◌, ◌/◌, ◌%◌, ◌≤◌, ◌⊎◌, Bool, true}
+use Rattle.std.specs.Prelude.{false, ◌&&◌, List, [], ◌∷◌, ◌++◌, length, slice_get, Option, Some}
+use Rattle.std.specs.Prelude.{None, if◌then◌else◌}
+use Rattle.pg_unfold.specs.Prelude.{All, IsMarked, Grid, Body, ImageClaim, ImageNode, Plain, Image}
+use Rattle.pg_unfold.specs.Prelude.{numbered, number_of, IsMapOn, GridMap}
 use Rattle.pg_base.specs.declared.limits.TheConstants.{MAX_MEMBERS}
 use Rattle.pg_unfold.specs.Copies.{Copy, NamesChild, LeadsTo, IsAt, IsMet, IsPlaced}
 use Rattle.pg_unfold.specs.Flaws.{HasEarlier}

@@ -1,7 +1,11 @@
 -- What a claim with turned and reflected nodes stands for: a claim of plain nodes, one for each
 -- copy of a plain node that is met.
 use Rattle.std.specs.Prelude.{◌≡◌, ℕ, ◌+◌, ◌<◌, List, [], ◌∷◌, length, map, Option, Some, slice_get}
-use Rattle.pg_unfold.specs.Prelude.{AllPairs, AllZip, IsPermutation, Grid, position_of, Claim, Two, Body, Over, Move, Pairs, Potential, Trees, Cuts, Threat, Weaker, Node, Reply, Game, Position, ImageCert, ImageClaim, ImageNode, Plain, board_of, image_on, image_pair, image_position, image_set}
+use Rattle.pg_unfold.specs.Prelude.{AllPairs, AllZip, IsPermutation, Grid, position_of, Claim, Two}
+use Rattle.pg_unfold.specs.Prelude.{Body, Over, Move, Pairs, Potential, Trees, Cuts, Threat, Weaker}
+use Rattle.pg_unfold.specs.Prelude.{Node, Reply, Game, Position, ImageCert, ImageClaim, ImageNode}
+use Rattle.pg_unfold.specs.Prelude.{Plain, board_of, image_on, image_pair, image_position}
+use Rattle.pg_unfold.specs.Prelude.{image_set}
 use Rattle.pg_cert.specs.declared.node.Body.TheVariants.{All}
 use Rattle.pg_unfold.specs.Copies.{Copy, AreCopies, IsPlaced}
 use Rattle.pg_unfold.specs.declared.unfolded.Unfolded.{Unfolded}

@@ -1,7 +1,13 @@
 -- Sets that a judge makes, and what they decide.
-use Rattle.std.proofs.Common.{◌≡◌, ℕ, suc, Bool, true, false, not, ◌&&◌, Option, Some, None, refl, sym, ap, ◌∙◌}
+use Rattle.std.proofs.Common.{◌≡◌, ℕ, suc, Bool, true, false, not, ◌&&◌, Option, Some, None, refl}
+use Rattle.std.proofs.Common.{sym, ap, ◌∙◌}
 use Rattle.std.specs.Prelude.{nat_lt, unwrap_or, length}
-use Rattle.pg_vec_player.proofs.Common.{and_parts, and_from, lt-ltb, ltb-true, FinSet, contains, remove, union, difference, nat_cmp, either, outside, same_sets, below_parts, below_from, contains-union_either, contains-difference_outside, Position, ending_by, kept, left_without, VecGame, with_target, vector_rules, vector_spans}
+use Rattle.pg_vec_player.proofs.Common.{and_parts, and_from, lt-ltb, ltb-true, FinSet, contains}
+use Rattle.pg_vec_player.proofs.Common.{remove, union, difference, nat_cmp, either, outside}
+use Rattle.pg_vec_player.proofs.Common.{same_sets, below_parts, below_from, contains-union_either}
+use Rattle.pg_vec_player.proofs.Common.{contains-difference_outside, Position, ending_by, kept}
+use Rattle.pg_vec_player.proofs.Common.{left_without, VecGame, with_target, vector_rules}
+use Rattle.pg_vec_player.proofs.Common.{vector_spans}
 use Rattle.pg_base.specs.declared.score.Score.TheVariants.{YWins}
 
 pub kept-is : (p : Position) (all left : FinSet nat_cmp) (limit : ℕ)

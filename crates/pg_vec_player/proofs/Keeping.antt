@@ -1,20 +1,34 @@
 -- The own move keeps the plan, and so the side goes on to its win.
-use Rattle.std.proofs.Common.{◌≡◌, ◌≢◌, ℕ, ◌<◌, ◌≤◌, suc, Bool, true, false, not, List, [], ◌∷◌, ◌++◌, Option, Some, None, Result, Ok, Err, inl, inr, refl, sym, ap, ◌∙◌, subst, subst₂, arith}
+use Rattle.std.proofs.Common.{◌≡◌, ◌≢◌, ℕ, ◌<◌, ◌≤◌, suc, Bool, true, false, not, List, [], ◌∷◌}
+use Rattle.std.proofs.Common.{◌++◌, Option, Some, None, Result, Ok, Err, inl, inr, refl, sym, ap}
+use Rattle.std.proofs.Common.{◌∙◌, subst, subst₂, arith}
 use Rattle.std.specs.Prelude.{IfSome, is_some, nat_lt, if◌then◌else◌, length}
-use Rattle.pg_vec_player.proofs.Common.{cases_Bool, both_ways, and_parts, false_from_ne_true, not-true, not_from_false, ltb-true, FinSet, contains, remove, nat_cmp, plus, minus, below, IsWithin, other, Win, Score, Side, X, Y, below_parts, below_from, minus_parts, minus_from, IsSpan, IsTrees, IsCuts, Position, is_free, ending_by, judged_by, Rules, moved, reaches, IsEnding, IsPlayBy, played_by, ForcesBy, kept, IsMonotone, IsPlace, AreFreeOrE, VecGame, VecPlan, VecMove, vec_move, answer_vector, lost_vector, plan_without, with_target, vector_rules, vector_spans}
+use Rattle.pg_vec_player.proofs.Common.{cases_Bool, both_ways, and_parts, false_from_ne_true}
+use Rattle.pg_vec_player.proofs.Common.{not-true, not_from_false, ltb-true, FinSet, contains}
+use Rattle.pg_vec_player.proofs.Common.{remove, nat_cmp, plus, minus, below, IsWithin, other, Win}
+use Rattle.pg_vec_player.proofs.Common.{Score, Side, X, Y, below_parts, below_from, minus_parts}
+use Rattle.pg_vec_player.proofs.Common.{minus_from, IsSpan, IsTrees, IsCuts, Position, is_free}
+use Rattle.pg_vec_player.proofs.Common.{ending_by, judged_by, Rules, moved, reaches, IsEnding}
+use Rattle.pg_vec_player.proofs.Common.{IsPlayBy, played_by, ForcesBy, kept, IsMonotone, IsPlace}
+use Rattle.pg_vec_player.proofs.Common.{AreFreeOrE, VecGame, VecPlan, VecMove, vec_move}
+use Rattle.pg_vec_player.proofs.Common.{answer_vector, lost_vector, plan_without, with_target}
+use Rattle.pg_vec_player.proofs.Common.{vector_rules, vector_spans}
 use Rattle.pg_base.specs.Points.{AreBelow}
 use Rattle.pg_graph.proofs.Swap.{spans_mono}
 use Rattle.pg_game.specs.declared.position.Illegal.{Illegal}
 use Rattle.pg_game.specs.declared.position.Illegal.TheVariants.{Range, Taken, Over}
 use Rattle.pg_game.proofs.RulesLaws.{some_free, value_by-over, ForcesBy-all-from}
 use Rattle.pg_game.proofs.Sides.{side≢other, other_other}
-use Rattle.pg_switch.proofs.ClaimLaws.{turn-next, free-next, x-plus, x-same, kept-same, kept-minus, IsPlace-next, IsEnding-claims}
+use Rattle.pg_switch.proofs.ClaimLaws.{turn-next, free-next, x-plus, x-same, kept-same, kept-minus}
+use Rattle.pg_switch.proofs.ClaimLaws.{IsPlace-next, IsEnding-claims}
 use Rattle.pg_switch.proofs.SpanLaws.{ForcesBy-trees, ForcesBy-cuts}
 use Rattle.pg_vec_player.specs.declared.judge.VecJudge.{VecJudge}
 use Rattle.pg_gf2.specs.GroundLaws.{IsSpan-vectors}
 use Rattle.pg_vec_player.specs.Judge.{IsVecJudgeOf}
-use Rattle.pg_vec_player.specs.Player.{vec_start, VecPlanHolds, IsVecReached, IsOnVecPlan, IsVecPlaying, VecPlay, VecWaits, HeldUntil, IsVecDue}
-use Rattle.pg_vec_player.proofs.VecSteps.{AreLeft, SetsDue, SetsStand, IsAnswer, remove-both, answer-kept}
+use Rattle.pg_vec_player.specs.Player.{vec_start, VecPlanHolds, IsVecReached, IsOnVecPlan}
+use Rattle.pg_vec_player.specs.Player.{IsVecPlaying, VecPlay, VecWaits, HeldUntil, IsVecDue}
+use Rattle.pg_vec_player.proofs.VecSteps.{AreLeft, SetsDue, SetsStand, IsAnswer, remove-both}
+use Rattle.pg_vec_player.proofs.VecSteps.{answer-kept}
 
 -- ---- legal moves
 

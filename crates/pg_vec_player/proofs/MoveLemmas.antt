@@ -1,6 +1,11 @@
 -- The moves that the code makes are those of the definitions.
-use Rattle.std.proofs.Common.{◌≡◌, ℕ, ◌≤◌, Bool, not, ◌&&◌, List, Option, inl, inr, sym, ap, ◌∙◌, subst}
-use Rattle.pg_vec_player.proofs.Common.{cases_Bool, FinSet, contains, remove, nat_cmp, minus, either, Side, X, Y, Position, left_without, VecPlan, VecMove, vec_move, lowest_unspanned, lowest_needed, reply_vector, answer_vector, lost_vector, plan_without, vector_spans, free-bound, found-bound}
+use Rattle.std.proofs.Common.{◌≡◌, ℕ, ◌≤◌, Bool, not, ◌&&◌, List, Option, inl, inr, sym, ap, ◌∙◌}
+use Rattle.std.proofs.Common.{subst}
+use Rattle.pg_vec_player.proofs.Common.{cases_Bool, FinSet, contains, remove, nat_cmp, minus}
+use Rattle.pg_vec_player.proofs.Common.{either, Side, X, Y, Position, left_without, VecPlan}
+use Rattle.pg_vec_player.proofs.Common.{VecMove, vec_move, lowest_unspanned, lowest_needed}
+use Rattle.pg_vec_player.proofs.Common.{reply_vector, answer_vector, lost_vector, plan_without}
+use Rattle.pg_vec_player.proofs.Common.{vector_spans, free-bound, found-bound}
 use Rattle.std.specs.List.{find, range_with_len}
 
 -- ---- what is found

@@ -1,12 +1,20 @@
 -- What a player has when it is opened.
-use Rattle.std.proofs.Common.{◌≡◌, ◌∙◌, ℕ, ◌<◌, suc, Bool, true, List, [], ◌∷◌, Some, find, length, slice_get, inl, inr, refl, sym, ap, subst, arith}
-use Rattle.pg_vec_player.proofs.Common.{and_parts, false≢true, cases_Bool, cases_lt, Coded-set, coded_ℕ, coded_bool, FinSet, nat_cmp, is_same_side, Side, X, Y, Position, IsPlace, AreFreeOrE, AreSpanTrees, AreSpanCuts, Cert, Claim, Body, Over, Move, Pairs, Potential, Trees, Cuts, Threat, Weaker, Node, VecGame, VecPlan, names_sets, IsOfSide, HasTrees, HasCuts, IsVecClaimValid, IsVecValid}
+use Rattle.std.proofs.Common.{◌≡◌, ◌∙◌, ℕ, ◌<◌, suc, Bool, true, List, [], ◌∷◌, Some, find, length}
+use Rattle.std.proofs.Common.{slice_get, inl, inr, refl, sym, ap, subst, arith}
+use Rattle.pg_vec_player.proofs.Common.{and_parts, false≢true, cases_Bool, cases_lt, Coded-set}
+use Rattle.pg_vec_player.proofs.Common.{coded_ℕ, coded_bool, FinSet, nat_cmp, is_same_side, Side, X}
+use Rattle.pg_vec_player.proofs.Common.{Y, Position, IsPlace, AreFreeOrE, AreSpanTrees, AreSpanCuts}
+use Rattle.pg_vec_player.proofs.Common.{Cert, Claim, Body, Over, Move, Pairs, Potential, Trees}
+use Rattle.pg_vec_player.proofs.Common.{Cuts, Threat, Weaker, Node, VecGame, VecPlan, names_sets}
+use Rattle.pg_vec_player.proofs.Common.{IsOfSide, HasTrees, HasCuts, IsVecClaimValid, IsVecValid}
 use Rattle.std.proofs.Math.Logic.{∥∥₁_elim, ∥∥₁_map}
 use Rattle.std.proofs.Math.Bridge.{le_prop}
 use Rattle.pg_base.specs.contracts.side.Side as side_row
 use Rattle.pg_cert.specs.declared.node.Body.TheVariants.{All as Every}
 use Rattle.pg_gf2.specs.declared.flaw.VecFlaw.TheVariants as flaws
-use Rattle.pg_vec_player.specs.Player.{is_vec_claim_of, chosen_vec_claim, plan_of_body, plan_of_node, plan_of_claim, vec_start, VecPlanHolds, IsOnVecPlan}
+use Rattle.pg_vec_player.specs.Player.{is_vec_claim_of, chosen_vec_claim, plan_of_body}
+use Rattle.pg_vec_player.specs.Player.{plan_of_node, plan_of_claim, vec_start, VecPlanHolds}
+use Rattle.pg_vec_player.specs.Player.{IsOnVecPlan}
 use Rattle.pg_vec_player.proofs.Keeping.{forced-by}
 
 -- ---- facts that have one proof at most

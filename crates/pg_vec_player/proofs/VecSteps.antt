@@ -1,9 +1,19 @@
 -- The answers by trees and by cuts are free vectors, and the sets stand after them.
-use Rattle.std.proofs.Common.{◌≡◌, ◌≢◌, ℕ, ◌<◌, suc, Bool, true, false, not, ◌&&◌, Option, inl, inr, refl, sym, ap, ◌∙◌, subst, subst₂, arith}
+use Rattle.std.proofs.Common.{◌≡◌, ◌≢◌, ℕ, ◌<◌, suc, Bool, true, false, not, ◌&&◌, Option, inl, inr}
+use Rattle.std.proofs.Common.{refl, sym, ap, ◌∙◌, subst, subst₂, arith}
 use Rattle.std.specs.Prelude.{unwrap_or}
-use Rattle.pg_vec_player.proofs.Common.{cases_Bool, both_ways, false_from_ne_true, true_from_ne_false, and_parts, and_from, not-true, not_from_false, FinSet, contains, remove, nat_cmp, plus, minus, either, outside, IsBelow, Side, X, Y, same_sets, below_parts, contains-remove_minus, minus_parts, minus_from, IsSpan, IsTrees, IsCuts, Position, is_free, kept, VecPlan, lowest_free, reply_vector, answer_vector, find_below-cases, free-free}
-use Rattle.pg_graph.proofs.Trees.{IsTrees-other, IsTrees-dropped, IsTrees-claimed, IsTrees-answered, spans_none}
-use Rattle.pg_graph.proofs.Cuts.{IsCuts-other, IsCuts-claimed, IsCuts-dropped, IsCuts-answered, find_parting}
+use Rattle.pg_vec_player.proofs.Common.{cases_Bool, both_ways, false_from_ne_true}
+use Rattle.pg_vec_player.proofs.Common.{true_from_ne_false, and_parts, and_from, not-true}
+use Rattle.pg_vec_player.proofs.Common.{not_from_false, FinSet, contains, remove, nat_cmp, plus}
+use Rattle.pg_vec_player.proofs.Common.{minus, either, outside, IsBelow, Side, X, Y, same_sets}
+use Rattle.pg_vec_player.proofs.Common.{below_parts, contains-remove_minus, minus_parts, minus_from}
+use Rattle.pg_vec_player.proofs.Common.{IsSpan, IsTrees, IsCuts, Position, is_free, kept, VecPlan}
+use Rattle.pg_vec_player.proofs.Common.{lowest_free, reply_vector, answer_vector, find_below-cases}
+use Rattle.pg_vec_player.proofs.Common.{free-free}
+use Rattle.pg_graph.proofs.Trees.{IsTrees-other, IsTrees-dropped, IsTrees-claimed, IsTrees-answered}
+use Rattle.pg_graph.proofs.Trees.{spans_none}
+use Rattle.pg_graph.proofs.Cuts.{IsCuts-other, IsCuts-claimed, IsCuts-dropped, IsCuts-answered}
+use Rattle.pg_graph.proofs.Cuts.{find_parting}
 
 -- a number that isn't a member takes nothing away
 minus_absent : (a : ℕ → Bool) (x : ℕ) → a x ≡ false → minus a x ≡ a

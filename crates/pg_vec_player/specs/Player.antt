@@ -1,6 +1,12 @@
 -- What is seen of a player of a game on vectors, and what it does.
-use Rattle.std.specs.Prelude.{◌≡◌, ◌⊎◌, ℕ, ◌<◌, Bool, true, false, ◌&&◌, List, length, Option, Some, None, Ok, find, slice_get}
-use Rattle.pg_vec_player.specs.Prelude.{empty, other, is_same_side, Win, Score, Side, X, Y, Position, is_free, ending_by, judged_by, moved, IsPlayBy, played_by, ForcesBy, IsPlace, AreSpanTrees, AreSpanCuts, Cert, Claim, Body, Trees, Cuts, Node, VecGame, VecPlan, vec_move, with_e_named, with_target, vector_rules, at_turn, vector_spans}
+use Rattle.std.specs.Prelude.{◌≡◌, ◌⊎◌, ℕ, ◌<◌, Bool, true, false, ◌&&◌, List, length, Option, Some}
+use Rattle.std.specs.Prelude.{None, Ok, find, slice_get}
+use Rattle.pg_vec_player.specs.Prelude.{empty, other, is_same_side, Win, Score, Side, X, Y}
+use Rattle.pg_vec_player.specs.Prelude.{Position, is_free, ending_by, judged_by, moved, IsPlayBy}
+use Rattle.pg_vec_player.specs.Prelude.{played_by, ForcesBy, IsPlace, AreSpanTrees, AreSpanCuts}
+use Rattle.pg_vec_player.specs.Prelude.{Cert, Claim, Body, Trees, Cuts, Node, VecGame, VecPlan}
+use Rattle.pg_vec_player.specs.Prelude.{vec_move, with_e_named, with_target, vector_rules, at_turn}
+use Rattle.pg_vec_player.specs.Prelude.{vector_spans}
 use Rattle.pg_vec_player.specs.declared.judge.VecJudge.{VecJudge}
 use Rattle.pg_vec_player.specs.Judge.{IsVecJudgeOf}
 

@@ -1,5 +1,6 @@
 -- What the words of a command line mean.
-use Rattle.std.specs.Prelude.{◌*◌, min, nat_le, ℕ, Bool, false, List, [], ◌∷◌, codes, Option, Some, None, option_map, option_and_then, if◌then◌else◌}
+use Rattle.std.specs.Prelude.{◌*◌, min, nat_le, ℕ, Bool, false, List, [], ◌∷◌, codes, Option, Some}
+use Rattle.std.specs.Prelude.{None, option_map, option_and_then, if◌then◌else◌}
 use Rattle.pg_words.specs.Prelude.{bytes_eq, Bytes}
 use Rattle.pg_base.specs.Side.{side_of}
 use Rattle.pg_base.specs.declared.side.Side.{Side}
@@ -12,7 +13,8 @@ use Rattle.pg_words.specs.declared.family.FamilyTask.{FamilyTask}
 use Rattle.pg_words.specs.declared.family.FamilyTask.TheVariants as tasks
 use Rattle.pg_words.specs.declared.source.Source.{Source}
 use Rattle.pg_words.specs.declared.source.Source.TheVariants.{Rows, Bridge, Scatter}
-use Rattle.pg_game.specs.declared.bounds.TheConstants.{MAX_POINTS, MAX_LINES, MAX_LINE_POINTS, MAX_POSITIONS, MAX_SUMMED_POINTS}
+use Rattle.pg_game.specs.declared.bounds.TheConstants.{MAX_POINTS, MAX_LINES, MAX_LINE_POINTS}
+use Rattle.pg_game.specs.declared.bounds.TheConstants.{MAX_POSITIONS, MAX_SUMMED_POINTS}
 use Rattle.pg_gen.specs.declared.limits.TheConstants.{MAX_BRIDGE_ROWS, MAX_SQUARE_SIDE}
 
 -- what the program is asked to do, with the names of files

@@ -1,5 +1,6 @@
 use Rattle.std.proofs.Common.{◌≡◌, ◌<◌, ℕ, true, sym, subst}
-use Rattle.pg_avoider.proofs.Common.{XWins, is_free, point_count, after, outcome, AvoiderHolds, IsBaseOf-two}
+use Rattle.pg_avoider.proofs.Common.{XWins, is_free, point_count, after, outcome, AvoiderHolds}
+use Rattle.pg_avoider.proofs.Common.{IsBaseOf-two}
 use Rattle.pg_avoider.proofs.AvoiderLaws.{answer-is, answer-free, answer-wins, answer-keeps}
 use Rattle.pg_avoider.proofs.answers.answer.Goals as goal
 

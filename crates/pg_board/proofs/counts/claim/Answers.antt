@@ -3,7 +3,8 @@ use Rattle.pg_board.proofs.Common.{other, with_set, extends-set, extends-both}
 use Rattle.pg_board.specs.Shape.{line_in, count_cell}
 use Rattle.pg_board.specs.Counts.{count_in, free_by}
 use Rattle.pg_board.proofs.CellPlaces.{count_cell-within}
-use Rattle.pg_board.proofs.Claiming.{sides-sum, some-line, few-lines, free-short, claimed-more, claimed-counted}
+use Rattle.pg_board.proofs.Claiming.{sides-sum, some-line, few-lines, free-short, claimed-more}
+use Rattle.pg_board.proofs.Claiming.{claimed-counted}
 use Rattle.pg_board.proofs.counts.claim.Goals as goal
 
 pub get-own-requires : goal.get-own-requires

@@ -1,4 +1,5 @@
-use Rattle.std.proofs.Common.{◌≡◌, ◌<◌, ◌+◌, ◌++◌, ◌∷◌, ℕ, [], length, get_or, set, arith, ap, ◌∙◌, sym, subst, List}
+use Rattle.std.proofs.Common.{◌≡◌, ◌<◌, ◌+◌, ◌++◌, ◌∷◌, ℕ, [], length, get_or, set, arith, ap, ◌∙◌}
+use Rattle.std.proofs.Common.{sym, subst, List}
 use Rattle.std.proofs.lemmas.List.{get_or_read, get_or_default}
 use Rattle.pg_board.proofs.Gathering.{AreGathering, gathering-start, gathering-step, gathering-end}
 use Rattle.pg_board.proofs.layout.add_line.Goals as goal

@@ -2,7 +2,8 @@ use Rattle.std.proofs.Common.{◌<◌, arith}
 use Rattle.std.proofs.lemmas.Bool.Decides.{nat_tests}
 use Rattle.pg_cert_lines.proofs.DigitRuns.{leads}
 use Rattle.pg_cert_lines.proofs.numerals.leading.Goals as goal
-use Rattle.pg_cert_lines.proofs.numerals.leading.Goals.{else-found-gt1-via-then-found-gt1+else-text-eq48, else-found-gt1-via-else-found-gt1}
+use Rattle.pg_cert_lines.proofs.numerals.leading.Goals.{else-found-gt1-via-then-found-gt1+else-text-eq48}
+use Rattle.pg_cert_lines.proofs.numerals.leading.Goals.{else-found-gt1-via-else-found-gt1}
 
 pub returns : goal.returns
 returns c =

@@ -2,7 +2,8 @@ use Rattle.std.proofs.Common.{◌≡◌, ◌∷◌, [], length, map, sym, ap, su
 use Rattle.std.proofs.lemmas.Result.{IfOk-weaker}
 use Rattle.pg_cert.specs.Parts.{claim_parts}
 use Rattle.pg_cert.specs.declared.part.Part.TheVariants as parts
-use Rattle.pg_check.proofs.TakenParts.{HasTaken, first-next, others-next, taken-both, claim_parts-from}
+use Rattle.pg_check.proofs.TakenParts.{HasTaken, first-next, others-next, taken-both}
+use Rattle.pg_check.proofs.TakenParts.{claim_parts-from}
 use Rattle.pg_check.proofs.feeding.feed_claim.Goals as goal
 
 pub overflow_cast-nodes : goal.overflow_cast-nodes

@@ -1,8 +1,13 @@
-use Rattle.std.proofs.Common.{◌≡◌, ◌∙◌, ◌<◌, ◌≤◌, ◌+◌, ℕ, true, false, get_or, length, sym, subst, arith, inl, inr, eqb-true, eq-eqb}
+use Rattle.std.proofs.Common.{◌≡◌, ◌∙◌, ◌<◌, ◌≤◌, ◌+◌, ℕ, true, false, get_or, length, sym, subst}
+use Rattle.std.proofs.Common.{arith, inl, inr, eqb-true, eq-eqb}
 use Rattle.pg_check.proofs.Common.{false≢true, cases_eq, Reply, point_count, is_free}
-use Rattle.pg_check.proofs.ReplyLemmas.{points_from, free_from, points_from-start, free_from-start, points_from-next, points_from-end, free_from-free, free_from-taken, free_from-end, same_rest, same_whole, other_head, no_head}
+use Rattle.pg_check.proofs.ReplyLemmas.{points_from, free_from, points_from-start, free_from-start}
+use Rattle.pg_check.proofs.ReplyLemmas.{points_from-next, points_from-end, free_from-free}
+use Rattle.pg_check.proofs.ReplyLemmas.{free_from-taken, free_from-end, same_rest, same_whole}
+use Rattle.pg_check.proofs.ReplyLemmas.{other_head, no_head}
 use Rattle.pg_check.proofs.moves.are_free_points.Goals as goal
-use Rattle.pg_check.proofs.moves.are_free_points.Goals.{then-is_free+else-next-replies+else-replies-next, else-is_free}
+use Rattle.pg_check.proofs.moves.are_free_points.Goals.{then-is_free+else-next-replies+else-replies-next}
+use Rattle.pg_check.proofs.moves.are_free_points.Goals.{else-is_free}
 
 pub loop-v-init : goal.loop-v-init
 loop-v-init c = record {

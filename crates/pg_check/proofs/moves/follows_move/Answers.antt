@@ -1,5 +1,6 @@
 use Rattle.std.proofs.Common.{◌≡◌, ◌∙◌, ◌*◌, ◌<◌, ℕ, true, map, sym, subst}
-use Rattle.pg_check.proofs.Common.{Position, is_free, point_count, IsNodeOf, AreBelow, IsPosition-after}
+use Rattle.pg_check.proofs.Common.{Position, is_free, point_count, IsNodeOf, AreBelow}
+use Rattle.pg_check.proofs.Common.{IsPosition-after}
 use Rattle.pg_check.specs.Marks.{kept}
 use Rattle.pg_check.specs.Present.{bare}
 use Rattle.pg_check.proofs.FlatMarks.{fits-row}

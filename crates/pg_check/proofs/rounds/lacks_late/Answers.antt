@@ -1,4 +1,5 @@
-use Rattle.std.proofs.Common.{◌≡◌, ◌≤◌, ◌-◌, ◌==◌, ◌||◌, ◌∙◌, ℕ, true, nat_le, get_or, sym, subst, arith}
+use Rattle.std.proofs.Common.{◌≡◌, ◌≤◌, ◌-◌, ◌==◌, ◌||◌, ◌∙◌, ℕ, true, nat_le, get_or, sym, subst}
+use Rattle.std.proofs.Common.{arith}
 use Rattle.pg_check.proofs.Common.{false≢true, list_all}
 use Rattle.pg_check.specs.Rounds.{taken_at}
 use Rattle.pg_check.proofs.RoundLaws.{sole-lacked}

@@ -1,7 +1,10 @@
-use Rattle.std.proofs.Common.{◌≡◌, ◌+◌, ◌-◌, ◌*◌, ◌/◌, ◌%◌, ◌∙◌, ℕ, false, length, get_or, sym, ap, subst, subst₂, arith}
+use Rattle.std.proofs.Common.{◌≡◌, ◌+◌, ◌-◌, ◌*◌, ◌/◌, ◌%◌, ◌∙◌, ℕ, false, length, get_or, sym, ap}
+use Rattle.std.proofs.Common.{subst, subst₂, arith}
 use Rattle.pg_check.proofs.Common.{false≢true, Position, has_filled, Filling}
 use Rattle.pg_check.specs.Rounds.{attack_at, before_round, IsClear}
-use Rattle.pg_check.proofs.RoundLaws.{leads-odd, lead-all, lead-none, lead-long, lead-filling, lead-safe, lead-forced, safe-clear, all-lead, mine-unfilled, zeros}
+use Rattle.pg_check.proofs.RoundLaws.{leads-odd, lead-all, lead-none, lead-long, lead-filling}
+use Rattle.pg_check.proofs.RoundLaws.{lead-safe, lead-forced, safe-clear, all-lead, mine-unfilled}
+use Rattle.pg_check.proofs.RoundLaws.{zeros}
 use Rattle.pg_check.proofs.rounds.rounds_lead.Goals as goal
 
 pub returns-then-points-eq0 : goal.returns-then-points-eq0

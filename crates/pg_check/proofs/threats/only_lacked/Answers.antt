@@ -1,5 +1,6 @@
 use Rattle.std.proofs.Common.{◌∙◌, ◌<◌, length, sym, arith}
-use Rattle.pg_check.proofs.ThreatTests.{lacked-own, lacked-first, lacked-second, lacked-one, lacked-none}
+use Rattle.pg_check.proofs.ThreatTests.{lacked-own, lacked-first, lacked-second, lacked-one}
+use Rattle.pg_check.proofs.ThreatTests.{lacked-none}
 use Rattle.pg_check.proofs.threats.only_lacked.Goals as goal
 use Rattle.pg_check.proofs.threats.only_lacked.Goals.{then-not-has+else-is_some, else-not-has}
 

@@ -1,5 +1,6 @@
 use Rattle.std.proofs.Common.{◌∙◌, sym, ap}
-use Rattle.pg_check.proofs.Common.{false≢true, list_any, FinSet, insert, nat_cmp, is_filled, lines_of}
+use Rattle.pg_check.proofs.Common.{false≢true, list_any, FinSet, insert, nat_cmp, is_filled}
+use Rattle.pg_check.proofs.Common.{lines_of}
 use Rattle.pg_check.proofs.ThreatTests.{threatens-off, threatens-is}
 use Rattle.pg_check.proofs.threats.threatens.Goals as goal
 

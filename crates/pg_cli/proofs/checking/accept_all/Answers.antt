@@ -1,5 +1,6 @@
 use Rattle.std.proofs.Common.{map, get_or, arith, rules}
-use Rattle.pg_cli.proofs.Common.{get_or_default, Win, X, ClaimHead, Speaks-from_err, cut_here, grows_more}
+use Rattle.pg_cli.proofs.Common.{get_or_default, Win, X, ClaimHead, Speaks-from_err, cut_here}
+use Rattle.pg_cli.proofs.Common.{grows_more}
 use Rattle.pg_cli.specs.Checking.{head_acceptance}
 use Rattle.pg_cli.proofs.checking.accept_all.Goals as goal
 

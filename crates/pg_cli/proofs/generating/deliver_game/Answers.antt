@@ -1,5 +1,6 @@
 use Rattle.std.proofs.Common.{[], ◌∷◌, refl, ◌∙◌, subst}
-use Rattle.pg_cli.proofs.Common.{err_from_is_err_and, Bytes, Memory, message_text, Does, Delivers, stopped_first}
+use Rattle.pg_cli.proofs.Common.{err_from_is_err_and, Bytes, Memory, message_text, Does, Delivers}
+use Rattle.pg_cli.proofs.Common.{stopped_first}
 use Rattle.pg_cli.specs.Generating.{game_file, size_texts}
 use Rattle.pg_cli.proofs.generating.deliver_game.Goals as goal
 

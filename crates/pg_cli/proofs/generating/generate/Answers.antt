@@ -1,5 +1,6 @@
 use Rattle.std.proofs.Common.{false, Option, Some, None, Ok, Err, sym, subst}
-use Rattle.pg_cli.proofs.Common.{err_from_is_err_and, Bytes, Game, text, Command, Gen, delivers_then}
+use Rattle.pg_cli.proofs.Common.{err_from_is_err_and, Bytes, Game, text, Command, Gen}
+use Rattle.pg_cli.proofs.Common.{delivers_then}
 use Rattle.std.specs.Borrow.{Bor}
 use Rattle.pg_cli.specs.Commands.{LeavesWork, Quiets, built}
 use Rattle.pg_cli.specs.Generating.{IsMadeOf, game_file, size_texts}

@@ -1,10 +1,14 @@
-use Rattle.std.proofs.Common.{◌≡◌, ℕ, map, string_bytes, Option, Some, option_and_then, option_map, ap, sym, ◌∙◌, subst}
-use Rattle.pg_cli.proofs.Common.{err_from_is_err_and, Bytes, Holding, Memory, ordered, Command, OfFamily, Review, meaning_of, ActsInFamily, RefusesFamily, IsOfNames, IsReached, LeavesSearch, Runs, Stopped}
+use Rattle.std.proofs.Common.{◌≡◌, ℕ, map, string_bytes, Option, Some, option_and_then, option_map}
+use Rattle.std.proofs.Common.{ap, sym, ◌∙◌, subst}
+use Rattle.pg_cli.proofs.Common.{err_from_is_err_and, Bytes, Holding, Memory, ordered, Command}
+use Rattle.pg_cli.proofs.Common.{OfFamily, Review, meaning_of, ActsInFamily, RefusesFamily}
+use Rattle.pg_cli.proofs.Common.{IsOfNames, IsReached, LeavesSearch, Runs, Stopped}
 use Rattle.pg_words.specs.declared.command.Command.{Command as Order}
 use Rattle.pg_cli.specs.Commands.{SpeaksInTime, asked, built}
 use Rattle.pg_cli.specs.Run.{Carries}
 use Rattle.pg_cli.specs.Solving.{positions_for}
-use Rattle.pg_cli.proofs.Runs.{carries_memory, gives_memory, leaves_all, leaves_work, quiet_halt, speaks_in_time}
+use Rattle.pg_cli.proofs.Runs.{carries_memory, gives_memory, leaves_all, leaves_work, quiet_halt}
+use Rattle.pg_cli.proofs.Runs.{speaks_in_time}
 use Rattle.pg_cli.proofs.running.carry_out.Goals as goal
 
 pub returns-in_err-command-clause-ran : goal.returns-in_err-command-clause-ran

@@ -1,5 +1,6 @@
 use Rattle.std.proofs.Common.{refl, ◌∙◌, subst}
-use Rattle.pg_cli.proofs.Common.{err_from_is_err_and, Bytes, Memory, printed_certificate, Does, Delivers, texts_of, stopped_first}
+use Rattle.pg_cli.proofs.Common.{err_from_is_err_and, Bytes, Memory, printed_certificate, Does}
+use Rattle.pg_cli.proofs.Common.{Delivers, texts_of, stopped_first}
 use Rattle.pg_cli.proofs.solving.deliver_solution.Goals as goal
 
 pub returns-in_err-text-clause-delivered : goal.returns-in_err-text-clause-delivered

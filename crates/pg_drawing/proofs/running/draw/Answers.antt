@@ -2,7 +2,8 @@ use Rattle.std.proofs.Common.{map, string_bytes}
 use Rattle.pg_io.specs.declared.stop.Stop.TheVariants.{Read, Write}
 use Rattle.pg_drawing.specs.Orders.{order_of}
 use Rattle.pg_drawing.specs.Runs.{statuses_of}
-use Rattle.pg_drawing.proofs.Endings.{refusal_in, said_status, stopped_status, told_status, writes_fail}
+use Rattle.pg_drawing.proofs.Endings.{refusal_in, said_status, stopped_status, told_status}
+use Rattle.pg_drawing.proofs.Endings.{writes_fail}
 use Rattle.pg_drawing.proofs.running.draw.Goals as goal
 
 pub returns-in-Ok-clause-statuses : goal.returns-in-Ok-clause-statuses

@@ -1,7 +1,8 @@
 use Rattle.std.proofs.Common.{◌≡◌, ℕ, List, sym, subst}
 use Rattle.pg_evidence.specs.Standing.{CameFrom, HasOrigin}
 use Rattle.pg_evidence.proofs.Common.{Game, IsFirstFault, IsValid}
-use Rattle.pg_evidence.proofs.Feeding.{fed-all, fed-fault, fed-origin, fed-unfolding, fed-valid, fed-within}
+use Rattle.pg_evidence.proofs.Feeding.{fed-all, fed-fault, fed-origin, fed-unfolding, fed-valid}
+use Rattle.pg_evidence.proofs.Feeding.{fed-within}
 use Rattle.pg_evidence.proofs.folded.check_folded.Goals as goal
 
 pub feed_claims-requires-clause-first : goal.feed_claims-requires-clause-first

@@ -1,6 +1,7 @@
 use Rattle.std.proofs.Common.{◌≡◌, ◌∙◌, ◌<◌, ◌≤◌, List, length, get_or, refl, subst}
 use Rattle.pg_evidence.proofs.Common.{ImageClaim}
-use Rattle.pg_evidence.proofs.Feeding.{fed-at, fed-end, fed-nothing, laid-at, room-at, sound-at, within-layouts}
+use Rattle.pg_evidence.proofs.Feeding.{fed-at, fed-end, fed-nothing, laid-at, room-at, sound-at}
+use Rattle.pg_evidence.proofs.Feeding.{within-layouts}
 use Rattle.pg_evidence.proofs.folded.feed_claims.Goals as goal
 
 pub loop-i-init : goal.loop-i-init

@@ -1,8 +1,10 @@
 use Rattle.std.proofs.Common.{◌<◌, ◌≤◌, ℕ, Bool, arith, sym, subst}
 use Rattle.pg_exchange.proofs.Common.{contains, plus}
-use Rattle.pg_exchange.specs.Path.{first_label, second_label, above_of, via_of, depth_of, IsStep, IsClimbed, any}
+use Rattle.pg_exchange.specs.Path.{first_label, second_label, above_of, via_of, depth_of, IsStep}
+use Rattle.pg_exchange.specs.Path.{IsClimbed, any}
 use Rattle.pg_exchange.proofs.Tests.{emptied, with_point}
-use Rattle.pg_exchange.proofs.ClimbLemmas.{IsClimbed-begin, IsClimbed-turned, IsClimbed-step, IsPath-climbed}
+use Rattle.pg_exchange.proofs.ClimbLemmas.{IsClimbed-begin, IsClimbed-turned, IsClimbed-step}
+use Rattle.pg_exchange.proofs.ClimbLemmas.{IsPath-climbed}
 use Rattle.pg_exchange.proofs.path.climb.Goals as goal
 
 pub loop-p-init : goal.loop-p-init

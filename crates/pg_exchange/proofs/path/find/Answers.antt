@@ -1,5 +1,8 @@
-use Rattle.std.proofs.Common.{◌≡◌, ◌<◌, ◌≤◌, ℕ, Bool, true, false, arith, sym, subst, inl, inr, refl, suc}
-use Rattle.pg_exchange.proofs.Common.{contains, plus, count, plus_cases, plus_new, both_ways, true_from_ne_false, cases_Bool, edge_count, first_end_of, second_end_of, ends_in_range, count_less}
+use Rattle.std.proofs.Common.{◌≡◌, ◌<◌, ◌≤◌, ℕ, Bool, true, false, arith, sym, subst, inl, inr}
+use Rattle.std.proofs.Common.{refl, suc}
+use Rattle.pg_exchange.proofs.Common.{contains, plus, count, plus_cases, plus_new, both_ways}
+use Rattle.pg_exchange.proofs.Common.{true_from_ne_false, cases_Bool, edge_count, first_end_of}
+use Rattle.pg_exchange.proofs.Common.{second_end_of, ends_in_range, count_less}
 use Rattle.pg_exchange.specs.Path.{first_label, second_label, above_of, via_of}
 use Rattle.pg_exchange.proofs.Tests.{emptied, with_point}
 use Rattle.pg_exchange.proofs.TreeLemmas.{count_most}

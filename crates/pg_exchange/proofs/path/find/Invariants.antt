@@ -1,6 +1,7 @@
 use Rattle.std.proofs.Common.{◌≡◌, ◌-◌, ℕ, true, false, length}
 use Rattle.pg_exchange.proofs.Common.{contains, IsBelow, IsWithin, count}
-use Rattle.pg_exchange.specs.Path.{first_label, second_label, IsReachedBoth, above_of, via_of, IsSpread}
+use Rattle.pg_exchange.specs.Path.{first_label, second_label, IsReachedBoth, above_of, via_of}
+use Rattle.pg_exchange.specs.Path.{IsSpread}
 use Rattle.pg_exchange.proofs.path.find.Given as goal
 
 abbrev pub invariant-loop-steps : goal.invariant-loop-steps

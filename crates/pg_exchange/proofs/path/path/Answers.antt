@@ -3,7 +3,8 @@ use Rattle.pg_exchange.proofs.Common.{contains, count, count_plus, edge_count}
 use Rattle.pg_exchange.specs.Path.{first_label, second_label, above_of, via_of, IsTraced}
 use Rattle.pg_exchange.proofs.Tests.{emptied, with_point}
 use Rattle.pg_exchange.proofs.TreeLemmas.{count_most}
-use Rattle.pg_exchange.proofs.PathLemmas.{IsTraced-begin, IsTraced-step, IsPath-traced, fresh_traced, step_here}
+use Rattle.pg_exchange.proofs.PathLemmas.{IsTraced-begin, IsTraced-step, IsPath-traced}
+use Rattle.pg_exchange.proofs.PathLemmas.{fresh_traced, step_here}
 use Rattle.pg_exchange.proofs.path.path.Goals as goal
 
 pub loop-here-init : goal.loop-here-init

@@ -1,5 +1,7 @@
-use Rattle.std.proofs.Common.{◌≡◌, ◌<◌, ◌≤◌, ◌+◌, ◌⊎◌, ℕ, Bool, true, false, arith, slice_index, ap, ◌∙◌, sym, subst, inl, inr}
-use Rattle.pg_exchange.proofs.Common.{cases_eq, cases_lt, cases_Bool, both_ways, false_from_ne_true, FinSet, contains, nat_cmp, minus, minus_parts, minus_from}
+use Rattle.std.proofs.Common.{◌≡◌, ◌<◌, ◌≤◌, ◌+◌, ◌⊎◌, ℕ, Bool, true, false, arith, slice_index, ap}
+use Rattle.std.proofs.Common.{◌∙◌, sym, subst, inl, inr}
+use Rattle.pg_exchange.proofs.Common.{cases_eq, cases_lt, cases_Bool, both_ways, false_from_ne_true}
+use Rattle.pg_exchange.proofs.Common.{FinSet, contains, nat_cmp, minus, minus_parts, minus_from}
 use Rattle.pg_exchange.specs.Path.{first_label, second_label, IsReachedBoth, SpreadsOn}
 use Rattle.pg_exchange.proofs.Tests.{without_point}
 use Rattle.pg_exchange.proofs.PathLemmas.{SpreadsOn-twice}

@@ -1,5 +1,6 @@
 use Rattle.std.proofs.Common.{◌≡◌, ℕ, Bool, true, ap, ◌∙◌, sym, subst, inl, inr}
-use Rattle.pg_exchange.proofs.Common.{both_ways, false_from_ne_true, contains, either, minus, either_cases, either_left, minus_parts}
+use Rattle.pg_exchange.proofs.Common.{both_ways, false_from_ne_true, contains, either, minus}
+use Rattle.pg_exchange.proofs.Common.{either_cases, either_left, minus_parts}
 use Rattle.pg_exchange.proofs.Tests.{without_point, none_left}
 use Rattle.pg_exchange.proofs.SearchSteps.{either-minus}
 use Rattle.pg_exchange.proofs.search.take_next.Goals as goal

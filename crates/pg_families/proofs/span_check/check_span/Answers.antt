@@ -1,6 +1,7 @@
 use Rattle.std.proofs.Common.{refl}
 use Rattle.std.proofs.lemmas.Result.{err_from_is_err_and}
-use Rattle.pg_families.specs.Connectivity.{AcceptsSpans, RefusesSpanCheck, span_both_held, span_pair}
+use Rattle.pg_families.specs.Connectivity.{AcceptsSpans, RefusesSpanCheck, span_both_held}
+use Rattle.pg_families.specs.Connectivity.{span_pair}
 use Rattle.pg_families.proofs.Judging.{runs_both, runs_unread}
 use Rattle.pg_families.proofs.span_check.check_span.Goals as goal
 

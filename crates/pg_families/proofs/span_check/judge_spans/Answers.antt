@@ -1,5 +1,6 @@
 use Rattle.std.proofs.Common.{◌∙◌, List, Err, ap, map, subst}
-use Rattle.pg_families.proofs.Common.{err_from_is_err_and, Grows, Said, IsSpanValid, SpanClaim, SpanFault, span_entry, IsCut}
+use Rattle.pg_families.proofs.Common.{err_from_is_err_and, Grows, Said, IsSpanValid, SpanClaim}
+use Rattle.pg_families.proofs.Common.{SpanFault, span_entry, IsCut}
 use Rattle.pg_span.specs.Flaw.{flaw_number}
 use Rattle.pg_families.specs.Connectivity.{RejectsSpan, span_acceptance, span_acceptances}
 use Rattle.pg_families.proofs.Judging.{accepted_all, accepted_cut}

@@ -2,7 +2,8 @@ use Rattle.std.proofs.Common.{◌∙◌, Err, ap}
 use Rattle.pg_families.proofs.Common.{IsSpanValid, SpanFault, span_entry}
 use Rattle.pg_span.specs.Flaw.{flaw_number}
 use Rattle.pg_span.specs.declared.player.SpanOpen.{SpanOpen}
-use Rattle.pg_families.specs.Connectivity.{HasSpanClaim, LacksSpanClaim, RejectsSpan, span_contender}
+use Rattle.pg_families.specs.Connectivity.{HasSpanClaim, LacksSpanClaim, RejectsSpan}
+use Rattle.pg_families.specs.Connectivity.{span_contender}
 use Rattle.pg_families.proofs.Commands.{play_halts}
 use Rattle.pg_families.proofs.Judging.{played_unclaimed}
 use Rattle.pg_families.proofs.Spans.{play_rejects, plays_opened}

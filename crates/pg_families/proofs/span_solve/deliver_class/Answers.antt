@@ -1,5 +1,6 @@
 use Rattle.std.proofs.Common.{[], ◌∷◌, ◌∙◌, refl, ap, subst}
-use Rattle.pg_families.proofs.Common.{err_from_is_err_and, Bytes, Memory, message_text, Does, Delivers, stopped_first}
+use Rattle.pg_families.proofs.Common.{err_from_is_err_and, Bytes, Memory, message_text, Does}
+use Rattle.pg_families.proofs.Common.{Delivers, stopped_first}
 use Rattle.pg_families.specs.Connectivity.{SolvesSpanGame}
 use Rattle.pg_families.proofs.SpanRanges.{ranges_kept}
 use Rattle.pg_families.proofs.Spans.{delivers_class}

@@ -1,5 +1,6 @@
 use Rattle.std.proofs.Common.{◌≡◌, Err, Result, sym, subst, refl}
-use Rattle.pg_families.proofs.Common.{err_from_is_err_and, Halt, Refused, not_opened, opened, runs_halt, SpanEntry, span_entry}
+use Rattle.pg_families.proofs.Common.{err_from_is_err_and, Halt, Refused, not_opened, opened}
+use Rattle.pg_families.proofs.Common.{runs_halt, SpanEntry, span_entry}
 use Rattle.pg_families.specs.Connectivity.{SolvesSpan, SolvesSpanGame, span_held}
 use Rattle.pg_families.proofs.Commands.{runs_does}
 use Rattle.pg_families.proofs.span_solve.solve_span.Goals as goal

@@ -1,5 +1,6 @@
 use Rattle.std.proofs.Common.{◌∙◌, List, Err, ap, map, subst}
-use Rattle.pg_families.proofs.Common.{err_from_is_err_and, Grows, Said, flaw_number, IsVecValid, Claim, VecFault, vector_entry, IsCut}
+use Rattle.pg_families.proofs.Common.{err_from_is_err_and, Grows, Said, flaw_number, IsVecValid}
+use Rattle.pg_families.proofs.Common.{Claim, VecFault, vector_entry, IsCut}
 use Rattle.pg_families.specs.Vectors.{RejectsVectors, vec_acceptance, vec_acceptances}
 use Rattle.pg_families.proofs.Judging.{accepted_all, accepted_cut}
 use Rattle.pg_families.proofs.OnVectors.{judged_rejects}

@@ -1,6 +1,7 @@
 use Rattle.std.proofs.Common.{refl}
 use Rattle.std.proofs.lemmas.Result.{err_from_is_err_and}
-use Rattle.pg_families.specs.Vectors.{PlaysVectors, RefusesVectorPlay, vectors_both_held, vectors_pair}
+use Rattle.pg_families.specs.Vectors.{PlaysVectors, RefusesVectorPlay, vectors_both_held}
+use Rattle.pg_families.specs.Vectors.{vectors_pair}
 use Rattle.pg_families.proofs.Judging.{runs_both, runs_unread}
 use Rattle.pg_families.proofs.vec_play.play_vectors.Goals as goal
 

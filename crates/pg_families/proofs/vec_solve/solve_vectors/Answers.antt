@@ -1,5 +1,6 @@
 use Rattle.std.proofs.Common.{◌≡◌, Err, Result, sym, subst, refl}
-use Rattle.pg_families.proofs.Common.{err_from_is_err_and, Halt, Refused, not_opened, opened, runs_halt, VectorEntry, vector_entry}
+use Rattle.pg_families.proofs.Common.{err_from_is_err_and, Halt, Refused, not_opened, opened}
+use Rattle.pg_families.proofs.Common.{runs_halt, VectorEntry, vector_entry}
 use Rattle.pg_families.specs.Vectors.{SolvesVectors, SolvesVectorGame, vectors_held}
 use Rattle.pg_families.proofs.Commands.{runs_does}
 use Rattle.pg_families.proofs.vec_solve.solve_vectors.Goals as goal

@@ -1,6 +1,7 @@
 use Rattle.std.proofs.Common.{◌∷◌, [], map}
 use Rattle.pg_family_files.proofs.Common.{last_lines, each_text}
-use Rattle.pg_family_files.specs.Print.{printed_vectors, header, numbered, worded, signs_of, vector_words}
+use Rattle.pg_family_files.specs.Print.{printed_vectors, header, numbered, worded, signs_of}
+use Rattle.pg_family_files.specs.Print.{vector_words}
 use Rattle.pg_family_files.specs.declared.family.Family.TheVariants as families
 use Rattle.pg_family_files.specs.declared.family.Key.TheVariants as keys
 use Rattle.pg_family_files.proofs.Printed.{joined_vectors}

@@ -1,5 +1,6 @@
 use Rattle.std.proofs.Common.{◌≡◌, ◌+◌, ◌∷◌, List, length, arith, ◌∙◌, sym, ap}
-use Rattle.pg_family_files.proofs.Common.{Bytes, reading, lines_few, reads_on, ends, is_over, number_of}
+use Rattle.pg_family_files.proofs.Common.{Bytes, reading, lines_few, reads_on, ends, is_over}
+use Rattle.pg_family_files.proofs.Common.{number_of}
 use Rattle.pg_family_files.specs.FamilyFile.{after}
 use Rattle.pg_family_files.specs.Views.{view}
 use Rattle.pg_family_files.proofs.reading.read_lines.Goals as goal

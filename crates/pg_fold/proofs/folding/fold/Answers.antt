@@ -7,7 +7,8 @@ use Rattle.pg_fold.specs.Tables.{AreOrdered, AreTables}
 use Rattle.pg_fold.proofs.Limits.{folded-limits}
 use Rattle.pg_fold.proofs.Singles.{all-folded, foldable-of}
 use Rattle.pg_fold.proofs.folding.fold.Goals as goal
-use Rattle.pg_fold.proofs.folding.fold.Goals.{then-have_one_node+in_ok-folded, else-have_one_node+in_ok-tables+in_ok-folded-2}
+use Rattle.pg_fold.proofs.folding.fold.Goals.{then-have_one_node+in_ok-folded}
+use Rattle.pg_fold.proofs.folding.fold.Goals.{else-have_one_node+in_ok-tables+in_ok-folded-2}
 
 pub fold_claims-requires-clause-limits : goal.fold_claims-requires-clause-limits
 fold_claims-requires-clause-limits c = subst (λ (cs : List Claim). All IsClaim cs)

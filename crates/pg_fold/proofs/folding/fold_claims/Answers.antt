@@ -1,5 +1,6 @@
 use Rattle.std.proofs.Common.{◌+◌, List, [], length, take, sym, refl, subst}
-use Rattle.pg_fold.proofs.Common.{take_all, slice_get_read, AllZip, IsClaim, Claim, zip-more, ImageClaim}
+use Rattle.pg_fold.proofs.Common.{take_all, slice_get_read, AllZip, IsClaim, Claim, zip-more}
+use Rattle.pg_fold.proofs.Common.{ImageClaim}
 use Rattle.pg_fold.specs.Folded.{IsFoldedClaim}
 use Rattle.pg_fold.specs.Places.{IsFoldable}
 use Rattle.pg_fold.proofs.Listing.{all_at}

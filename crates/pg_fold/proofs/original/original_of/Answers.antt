@@ -1,5 +1,6 @@
 use Rattle.std.proofs.Common.{◌≡◌, ◌∙◌, ◌<◌, List, length, sym, ap, refl, subst, arith}
-use Rattle.pg_fold.proofs.Common.{length-map, take_all, slice_get_read, get, All, equal_positions, Position, GridMap}
+use Rattle.pg_fold.proofs.Common.{length-map, take_all, slice_get_read, get, All, equal_positions}
+use Rattle.pg_fold.proofs.Common.{Position, GridMap}
 use Rattle.pg_fold.specs.Places.{IsEarliest}
 use Rattle.pg_fold.specs.Tables.{IsTable, maps_of}
 use Rattle.pg_fold.specs.declared.tables.MapTable.{MapTable}

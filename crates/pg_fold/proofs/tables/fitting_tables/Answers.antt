@@ -1,5 +1,6 @@
 use Rattle.std.proofs.Common.{◌≡◌, ◌<◌, ◌↔◌, ◌∙◌, List, Some, sym, subst, arith}
-use Rattle.pg_fold.proofs.Common.{IfOk-weaker, AllPairs, Contains, cells, number_of, Fits, board_of, GridMap}
+use Rattle.pg_fold.proofs.Common.{IfOk-weaker, AllPairs, Contains, cells, number_of, Fits, board_of}
+use Rattle.pg_fold.proofs.Common.{GridMap}
 use Rattle.pg_game.proofs.Limits.{point_count-le}
 use Rattle.pg_fold.proofs.MapTables.{fits-all, tables-fit, tables-ordered}
 use Rattle.pg_fold.proofs.tables.fitting_tables.Goals as goal

@@ -1,4 +1,5 @@
-use Rattle.pg_game.proofs.Moves.{IsPosition-start, IsPosition-with_turn, IsPosition-after, IsPosition-played}
+use Rattle.pg_game.proofs.Moves.{IsPosition-start, IsPosition-with_turn, IsPosition-after}
+use Rattle.pg_game.proofs.Moves.{IsPosition-played}
 use Rattle.pg_game.proofs.laws.positions_stay.Goals as goal
 
 pub returns : goal.returns

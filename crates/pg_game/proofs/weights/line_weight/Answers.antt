@@ -1,4 +1,5 @@
-use Rattle.std.proofs.Common.{◌≡◌, ◌<◌, ◌≤◌, ◌-◌, ◌^◌, ◌∙◌, ℕ, List, length, get_or, take, take_all, ap, sym, subst, arith}
+use Rattle.std.proofs.Common.{◌≡◌, ◌<◌, ◌≤◌, ◌-◌, ◌^◌, ◌∙◌, ℕ, List, length, get_or, take, take_all}
+use Rattle.std.proofs.Common.{ap, sym, subst, arith}
 use Rattle.pg_game.proofs.Common.{count_by, list_any, contains, Contains-get_or, pow-le-pow_right}
 use Rattle.pg_game.specs.Position.{is_free}
 use Rattle.pg_game.proofs.LineSums.{line_weight-touched, line_weight-clear}

@@ -1,4 +1,5 @@
-use Rattle.std.proofs.Common.{◌≡◌, Option, Some, length, List, slice_get, unwrap_or, arith, inl, inr, ap, sym, ◌∙◌, refl, subst}
+use Rattle.std.proofs.Common.{◌≡◌, Option, Some, length, List, slice_get, unwrap_or, arith, inl}
+use Rattle.std.proofs.Common.{inr, ap, sym, ◌∙◌, refl, subst}
 use Rattle.pg_gf2.proofs.Common.{cases_eq, slice_get_read, Claim}
 use Rattle.pg_gf2.specs.declared.flaw.VecFlaw.{VecFlaw}
 use Rattle.pg_gf2.specs.Check.{IsVecClaimValid, IsClaimVerdict}

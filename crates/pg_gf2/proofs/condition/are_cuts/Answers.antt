@@ -1,9 +1,12 @@
 use Rattle.std.proofs.Common.{◌≡◌, ℕ, ◌↔◌, Bool, true, length, refl, IsTrue}
-use Rattle.pg_gf2.proofs.Common.{both_ways, IfOk-weaker, contains, Y, plus, IsSpanBridge, of_outside}
+use Rattle.pg_gf2.proofs.Common.{both_ways, IfOk-weaker, contains, Y, plus, IsSpanBridge}
+use Rattle.pg_gf2.proofs.Common.{of_outside}
 use Rattle.pg_gf2.specs.Vectors.{vector_spans}
 use Rattle.pg_gf2.specs.Classes.{with_target, at_turn, CutsAt}
-use Rattle.pg_gf2.proofs.ConditionLemmas.{cuts_from, cuts_first, cuts_second, parted, parted_left, parted_below, first_left, first_below}
-use Rattle.pg_gf2.proofs.VectorConditions.{within_list, within_sets, with_e_is, parted_is, left_is, PartsWithout-told, PartsWithout-owed}
+use Rattle.pg_gf2.proofs.ConditionLemmas.{cuts_from, cuts_first, cuts_second, parted, parted_left}
+use Rattle.pg_gf2.proofs.ConditionLemmas.{parted_below, first_left, first_below}
+use Rattle.pg_gf2.proofs.VectorConditions.{within_list, within_sets, with_e_is, parted_is, left_is}
+use Rattle.pg_gf2.proofs.VectorConditions.{PartsWithout-told, PartsWithout-owed}
 use Rattle.pg_gf2.proofs.condition.are_cuts.Goals as goal
 
 pub are_bridges-requires-clause-bridges : goal.are_bridges-requires-clause-bridges

@@ -1,5 +1,6 @@
 use Rattle.std.proofs.Common.{◌≡◌, length, sym, ap, ◌∙◌}
-use Rattle.pg_gf2.proofs.Common.{both_ways, false_from_ne_true, not-true, not_from_false, contains, minus, without_point}
+use Rattle.pg_gf2.proofs.Common.{both_ways, false_from_ne_true, not-true, not_from_false, contains}
+use Rattle.pg_gf2.proofs.Common.{minus, without_point}
 use Rattle.pg_gf2.specs.Classes.{at_turn}
 use Rattle.pg_gf2.proofs.ConditionLemmas.{free_mine, free_none, free_rest, turn_of}
 use Rattle.pg_gf2.proofs.condition.are_free_or_e.Goals as goal

@@ -2,7 +2,8 @@ use Rattle.std.proofs.Common.{◌≡◌, ℕ, ◌↔◌, Bool, true, length, ref
 use Rattle.pg_gf2.proofs.Common.{both_ways, IfOk-weaker, contains, X, of_either}
 use Rattle.pg_gf2.specs.Vectors.{vector_spans}
 use Rattle.pg_gf2.specs.Classes.{with_target, at_turn, TreesAt}
-use Rattle.pg_gf2.proofs.ConditionLemmas.{trees_from, trees_first, trees_second, second_below, first_below}
+use Rattle.pg_gf2.proofs.ConditionLemmas.{trees_from, trees_first, trees_second, second_below}
+use Rattle.pg_gf2.proofs.ConditionLemmas.{first_below}
 use Rattle.pg_gf2.proofs.VectorConditions.{within_list, with_e_is, SpansWith-told, SpansWith-owed}
 use Rattle.pg_gf2.proofs.condition.are_trees.Goals as goal
 

@@ -1,5 +1,6 @@
 use Rattle.std.proofs.Common.{◌≡◌, ℕ, Bool, not, arith, ap, ◌∙◌, sym, refl, length}
-use Rattle.pg_gf2.proofs.Common.{FinSet, contains, nat_cmp, plus, below, either, below_none, below_in, below_out, emptied, with_point, of_either, free_with_e}
+use Rattle.pg_gf2.proofs.Common.{FinSet, contains, nat_cmp, plus, below, either, below_none}
+use Rattle.pg_gf2.proofs.Common.{below_in, below_out, emptied, with_point, of_either, free_with_e}
 use Rattle.pg_gf2.proofs.ground.elements_of.Goals as goal
 use Rattle.pg_gf2.proofs.ground.elements_of.Goals.{then-not-has, else-not-has}
 

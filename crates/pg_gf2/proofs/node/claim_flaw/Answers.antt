@@ -1,4 +1,5 @@
-use Rattle.std.proofs.Common.{◌≡◌, Option, Some, length, List, slice_get, arith, ap, sym, ◌∙◌, refl, subst}
+use Rattle.std.proofs.Common.{◌≡◌, Option, Some, length, List, slice_get, arith, ap, sym, ◌∙◌, refl}
+use Rattle.std.proofs.Common.{subst}
 use Rattle.pg_gf2.proofs.Common.{slice_get_read, IfOk-weaker, Node}
 use Rattle.pg_gf2.specs.declared.flaw.VecFlaw.{VecFlaw}
 use Rattle.pg_gf2.specs.Check.{IsNodeVerdict}

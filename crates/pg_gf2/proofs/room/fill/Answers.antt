@@ -1,10 +1,15 @@
-use Rattle.std.proofs.Common.{◌≡◌, ◌<◌, ◌≤◌, ◌+◌, ℕ, Bool, true, false, length, List, sym, ap, ◌∙◌, subst, subst₂, arith, inl, inr}
-use Rattle.pg_gf2.proofs.Common.{FinSet, contains, contains-empty, empty, nat_cmp, vec_len, vec_capacity, both_ways, cases_eq, false_from_ne_true, below, plus, IsWithin, plus_cases, plus_old, plus_new, below_parts, below_from, below_in, below_out, emptied, with_point}
+use Rattle.std.proofs.Common.{◌≡◌, ◌<◌, ◌≤◌, ◌+◌, ℕ, Bool, true, false, length, List, sym, ap, ◌∙◌}
+use Rattle.std.proofs.Common.{subst, subst₂, arith, inl, inr}
+use Rattle.pg_gf2.proofs.Common.{FinSet, contains, contains-empty, empty, nat_cmp, vec_len}
+use Rattle.pg_gf2.proofs.Common.{vec_capacity, both_ways, cases_eq, false_from_ne_true, below, plus}
+use Rattle.pg_gf2.proofs.Common.{IsWithin, plus_cases, plus_old, plus_new, below_parts, below_from}
+use Rattle.pg_gf2.proofs.Common.{below_in, below_out, emptied, with_point}
 use Rattle.pg_gf2.specs.declared.row.Row.{Row}
 use Rattle.pg_gf2.specs.Vectors.{vector_at}
 use Rattle.pg_gf2.specs.Rows.{IsEliminated, reduced}
 use Rattle.pg_gf2.proofs.RowLemmas.{told_whole}
-use Rattle.pg_gf2.proofs.EliminationLemmas.{eliminated_all, eliminated_begin, eliminated_own, eliminated_skip}
+use Rattle.pg_gf2.proofs.EliminationLemmas.{eliminated_all, eliminated_begin, eliminated_own}
+use Rattle.pg_gf2.proofs.EliminationLemmas.{eliminated_skip}
 use Rattle.pg_gf2.proofs.room.fill.Goals as goal
 use Rattle.pg_gf2.proofs.room.fill.Goals.{then-has+then-left-ne0, then-has+else-left-ne0, else-has}
 

@@ -1,5 +1,7 @@
-use Rattle.std.proofs.Common.{◌≡◌, ◌&&◌, not, ℕ, true, false, List, length, arith, inl, inr, sym, ap, ◌∙◌, subst}
-use Rattle.pg_gf2.proofs.Common.{both_ways, cases_eq, and_parts, and_from, false_from_ne_true, not-true, not_from_false, contains}
+use Rattle.std.proofs.Common.{◌≡◌, ◌&&◌, not, ℕ, true, false, List, length, arith, inl, inr, sym}
+use Rattle.std.proofs.Common.{ap, ◌∙◌, subst}
+use Rattle.pg_gf2.proofs.Common.{both_ways, cases_eq, and_parts, and_from, false_from_ne_true}
+use Rattle.pg_gf2.proofs.Common.{not-true, not_from_false, contains}
 use Rattle.pg_gf2.specs.declared.row.Row.{Row}
 use Rattle.pg_gf2.specs.Vectors.{vector_at, vector_spans}
 use Rattle.pg_gf2.specs.Rows.{reduced}

@@ -1,6 +1,7 @@
 use Rattle.std.proofs.Common.{◌≡◌, ◌&&◌, not, ℕ, Bool, true, false, inl, inr, sym, ap, ◌∙◌, subst}
 use Rattle.std.specs.Prelude.{nat_lt}
-use Rattle.pg_gf2.proofs.Common.{and_parts, both_ways, not-true, or_cases, lt-ltb, contains, minus_from, outside_parts}
+use Rattle.pg_gf2.proofs.Common.{and_parts, both_ways, not-true, or_cases, lt-ltb, contains}
+use Rattle.pg_gf2.proofs.Common.{minus_from, outside_parts}
 use Rattle.pg_gf2.proofs.room.with_above.Goals as goal
 
 pub returns : goal.returns

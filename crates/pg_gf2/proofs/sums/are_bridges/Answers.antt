@@ -1,5 +1,6 @@
 use Rattle.std.proofs.Common.{◌≡◌, ℕ, Bool, length, subst}
-use Rattle.pg_gf2.proofs.Common.{both_ways, contains, below, either, outside, IsGrown, emptied, of_outside}
+use Rattle.pg_gf2.proofs.Common.{both_ways, contains, below, either, outside, IsGrown, emptied}
+use Rattle.pg_gf2.proofs.Common.{of_outside}
 use Rattle.pg_gf2.specs.Vectors.{vector_at, vector_spans, spans_over}
 use Rattle.pg_gf2.specs.Rows.{IsEliminated}
 use Rattle.pg_gf2.specs.GroundLaws.{IsSpan-vectors}

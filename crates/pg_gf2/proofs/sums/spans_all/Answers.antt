@@ -1,4 +1,5 @@
-use Rattle.std.proofs.Common.{◌≡◌, ℕ, true, false, List, length, arith, inl, inr, refl, sym, ap, ◌∙◌, subst}
+use Rattle.std.proofs.Common.{◌≡◌, ℕ, true, false, List, length, arith, inl, inr, refl, sym, ap}
+use Rattle.std.proofs.Common.{◌∙◌, subst}
 use Rattle.pg_gf2.proofs.Common.{both_ways, cases_eq, contains}
 use Rattle.pg_gf2.specs.declared.row.Row.{Row}
 use Rattle.pg_gf2.specs.Vectors.{vector_at, vector_spans}

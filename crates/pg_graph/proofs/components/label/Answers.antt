@@ -1,5 +1,6 @@
 use Rattle.std.proofs.Common.{◌≡◌, ◌+◌, arith, subst, sym}
-use Rattle.pg_graph.proofs.Common.{false_from_ne_true, contains, below, below_parts, below_from, below_in, below_out, same_sets}
+use Rattle.pg_graph.proofs.Common.{false_from_ne_true, contains, below, below_parts, below_from}
+use Rattle.pg_graph.proofs.Common.{below_in, below_out, same_sets}
 use Rattle.pg_graph.specs.Graph.{edge_count, first_end_of, second_end_of}
 use Rattle.pg_graph.specs.Labels.{IsLabelling}
 use Rattle.pg_graph.proofs.StepLemmas.{IsLabelling-begin, IsLabelling-joined}

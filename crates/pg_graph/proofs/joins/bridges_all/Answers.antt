@@ -1,12 +1,19 @@
-use Rattle.std.proofs.Common.{◌≡◌, ℕ, ◌+◌, Bool, true, false, List, arith, sym, ap, ◌∙◌, subst, inl, inr}
-use Rattle.pg_graph.proofs.Common.{cases_eq, cases_Bool, both_ways, false_from_ne_true, FinSet, contains, plus, both, outside, contains-difference_outside, both_parts, both_from, outside_parts, outside_from}
+use Rattle.std.proofs.Common.{◌≡◌, ℕ, ◌+◌, Bool, true, false, List, arith, sym, ap, ◌∙◌, subst, inl}
+use Rattle.std.proofs.Common.{inr}
+use Rattle.pg_graph.proofs.Common.{cases_eq, cases_Bool, both_ways, false_from_ne_true, FinSet}
+use Rattle.pg_graph.proofs.Common.{contains, plus, both, outside, contains-difference_outside}
+use Rattle.pg_graph.proofs.Common.{both_parts, both_from, outside_parts, outside_from}
 use Rattle.std.specs.Ordering.{nat_cmp}
 use Rattle.pg_graph.specs.Graph.{JoinsEndsOf, IsBridge, edge_count, first_end_of, second_end_of}
 use Rattle.pg_graph.specs.Labels.{IsLabelling}
-use Rattle.pg_graph.proofs.Bridges.{united, united-begin, united-in, united-out, united-all, united-older, bridge-stays, bridge-comes, no_bridge, outside-bridge, bridge-outside}
+use Rattle.pg_graph.proofs.Bridges.{united, united-begin, united-in, united-out, united-all}
+use Rattle.pg_graph.proofs.Bridges.{united-older, bridge-stays, bridge-comes, no_bridge}
+use Rattle.pg_graph.proofs.Bridges.{outside-bridge, bridge-outside}
 use Rattle.pg_graph.proofs.StepLemmas.{IsLabelling-joined, ends_label, ends_two}
 use Rattle.pg_graph.proofs.joins.bridges_all.Goals as goal
-use Rattle.pg_graph.proofs.joins.bridges_all.Goals.{then-has+then-has-2+else-not-union, else-has, else-has-via-then-has+else-has-2, else-has-via-else-has}
+use Rattle.pg_graph.proofs.joins.bridges_all.Goals.{then-has+then-has-2+else-not-union, else-has}
+use Rattle.pg_graph.proofs.joins.bridges_all.Goals.{else-has-via-then-has+else-has-2}
+use Rattle.pg_graph.proofs.joins.bridges_all.Goals.{else-has-via-else-has}
 
 pub loop-k-init : goal.loop-k-init
 loop-k-init c =

@@ -1,6 +1,7 @@
 use Rattle.std.proofs.Common.{◌≡◌, ◌+◌, ◌++◌, Bool, List, ℕ, map, ap, refl, sym, ◌∙◌, arith}
 use Rattle.std.specs.Prelude.{string_bytes, nat_lt}
-use Rattle.pg_image.proofs.Common.{decimal, append-nil, contains, or_right, nat_tests, points_below, one_where, spaced, separated, is_begun, field_grows, begun_grows}
+use Rattle.pg_image.proofs.Common.{decimal, append-nil, contains, or_right, nat_tests, points_below}
+use Rattle.pg_image.proofs.Common.{one_where, spaced, separated, is_begun, field_grows, begun_grows}
 use Rattle.pg_image.proofs.Walk.{points_next, points_end}
 use Rattle.pg_image.proofs.printing.put_field.Goals as goal
 

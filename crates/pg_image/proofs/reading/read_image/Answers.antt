@@ -1,5 +1,6 @@
 use Rattle.std.proofs.Common.{◌≡◌, ◌+◌, ◌∷◌, List, length, Ok, arith, ◌∙◌, sym, ap}
-use Rattle.pg_image.proofs.Common.{Bytes, lines, reading, lines_few, reads_on, ends, is_over, end_fault}
+use Rattle.pg_image.proofs.Common.{Bytes, lines, reading, lines_few, reads_on, ends, is_over}
+use Rattle.pg_image.proofs.Common.{end_fault}
 use Rattle.pg_cert_lines.specs.Views.{number_of}
 use Rattle.pg_image.specs.ImageFile.{nothing, after, ended, image_certificate}
 use Rattle.pg_image.specs.Views.{view}

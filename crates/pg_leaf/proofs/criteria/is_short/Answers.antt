@@ -1,5 +1,6 @@
 use Rattle.std.proofs.Common.{◌≡◌, ◌∙◌, ℕ, ◌<◌, ◌/◌, false, length, ap, arith}
-use Rattle.pg_leaf.proofs.Common.{false_from_ne_true, ltb-true, Side, Game, Position, free_points, breaker_of, pairs_exist, live_lines, live_with}
+use Rattle.pg_leaf.proofs.Common.{false_from_ne_true, ltb-true, Side, Game, Position, free_points}
+use Rattle.pg_leaf.proofs.Common.{breaker_of, pairs_exist, live_lines, live_with}
 use Rattle.pg_leaf.proofs.ShortCounts.{few-lines, none-short}
 use Rattle.pg_leaf.proofs.criteria.is_short.Goals as goal
 

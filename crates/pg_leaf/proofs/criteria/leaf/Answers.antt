@@ -1,7 +1,10 @@
 use Rattle.std.proofs.Common.{◌≡◌, false, ◌∙◌, Some, is_some, sym, ap, subst, Bool}
-use Rattle.pg_leaf.proofs.Common.{by_end, defends, attack_wins, answer_for, pairs_exist, View, Potential}
+use Rattle.pg_leaf.proofs.Common.{by_end, defends, attack_wins, answer_for, pairs_exist, View}
+use Rattle.pg_leaf.proofs.Common.{Potential}
 use Rattle.pg_leaf.specs.Leaf.{IsLeaf}
-use Rattle.pg_leaf.proofs.FirstCriterion.{same-at, line-at, end-decides, end-leaf, not-over, by-potential, by-threat, by-pairs, by-none, potential-leaf, threat-leaf, pairs-leaf}
+use Rattle.pg_leaf.proofs.FirstCriterion.{same-at, line-at, end-decides, end-leaf, not-over}
+use Rattle.pg_leaf.proofs.FirstCriterion.{by-potential, by-threat, by-pairs, by-none}
+use Rattle.pg_leaf.proofs.FirstCriterion.{potential-leaf, threat-leaf, pairs-leaf}
 use Rattle.pg_leaf.proofs.criteria.leaf.Goals as goal
 
 pub returns-in-Some-clause-decided : goal.returns-in-Some-clause-decided

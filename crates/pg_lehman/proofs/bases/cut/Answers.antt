@@ -1,5 +1,6 @@
 use Rattle.std.proofs.Common.{◌≡◌, ℕ, Bool, ap, subst, sym, ◌∙◌}
-use Rattle.pg_lehman.proofs.Common.{both_ways, false_from_ne_true, contains, outside, both_parts, IsBase, IsReached, Matroid, IsSettled, of_outside}
+use Rattle.pg_lehman.proofs.Common.{both_ways, false_from_ne_true, contains, outside, both_parts}
+use Rattle.pg_lehman.proofs.Common.{IsBase, IsReached, Matroid, IsSettled, of_outside}
 use Rattle.pg_lehman.proofs.bases.cut.Goals as goal
 
 pub returns-clause-taken : goal.returns-clause-taken

@@ -1,5 +1,7 @@
-use Rattle.std.proofs.Common.{◌≡◌, ◌≤◌, ℕ, List, [], map, length, sym, ap, ◌∙◌, subst, arith, IsPermutation}
-use Rattle.pg_maps.proofs.Common.{false≢true, get_or_read, take_all, Contains-get_or, Contains-permutation, Contains}
+use Rattle.std.proofs.Common.{◌≡◌, ◌≤◌, ℕ, List, [], map, length, sym, ap, ◌∙◌, subst, arith}
+use Rattle.std.proofs.Common.{IsPermutation}
+use Rattle.pg_maps.proofs.Common.{false≢true, get_or_read, take_all, Contains-get_or}
+use Rattle.pg_maps.proofs.Common.{Contains-permutation, Contains}
 use Rattle.pg_maps.specs.Images.{image_line}
 use Rattle.pg_maps.specs.Rows.{IsRow, points_of_rows}
 use Rattle.pg_maps.proofs.Criteria.{Contains-map}

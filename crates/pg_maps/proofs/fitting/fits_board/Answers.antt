@@ -1,5 +1,7 @@
-use Rattle.std.proofs.Common.{◌≡◌, ℕ, Bool, IsTrue, List, map, length, sym, ap, ◌∙◌, subst, subst₂, IsPermutation, ◌↔◌}
-use Rattle.pg_maps.proofs.Common.{length-map-range_with_len, IsPermutation-sym, IsPermutation-trans, All, range_with_len, point_count, lines_of}
+use Rattle.std.proofs.Common.{◌≡◌, ℕ, Bool, IsTrue, List, map, length, sym, ap, ◌∙◌, subst, subst₂}
+use Rattle.std.proofs.Common.{IsPermutation, ◌↔◌}
+use Rattle.pg_maps.proofs.Common.{length-map-range_with_len, IsPermutation-sym, IsPermutation-trans}
+use Rattle.pg_maps.proofs.Common.{All, range_with_len, point_count, lines_of}
 use Rattle.std.proofs.lemmas.Result.{IfOk-weaker}
 use Rattle.pg_maps.specs.GridMaps.{image_of, reverse_of}
 use Rattle.pg_maps.specs.Images.{AreInverse, Fits, image_line}

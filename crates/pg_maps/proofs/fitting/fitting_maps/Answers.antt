@@ -1,9 +1,11 @@
-use Rattle.std.proofs.Common.{◌≡◌, ◌∷◌, [], ◌++◌, List, sym, ap, ap₂, ◌∙◌, subst, subst₂, arith, ◌+◌, ℕ}
+use Rattle.std.proofs.Common.{◌≡◌, ◌∷◌, [], ◌++◌, List, sym, ap, ap₂, ◌∙◌, subst, subst₂, arith}
+use Rattle.std.proofs.Common.{◌+◌, ℕ}
 use Rattle.std.proofs.lemmas.Bool.{false≢true}
 use Rattle.pg_maps.specs.declared.grid_map.GridMap.{GridMap}
 use Rattle.pg_maps.specs.GridMaps.{number_of, identity}
 use Rattle.pg_maps.specs.Images.{AreFitting}
-use Rattle.pg_maps.proofs.Listing.{AreFitting-first, AreFitting-alone, AreFitting-whole, AreFitting-more, AreFitting-same}
+use Rattle.pg_maps.proofs.Listing.{AreFitting-first, AreFitting-alone, AreFitting-whole}
+use Rattle.pg_maps.proofs.Listing.{AreFitting-more, AreFitting-same}
 use Rattle.pg_maps.proofs.Numbers.{number-numbered}
 use Rattle.pg_maps.proofs.fitting.fitting_maps.Goals as goal
 use Rattle.pg_maps.proofs.fitting.fitting_maps.Goals.{then-branch+in_ok-push-2, else-branch}

@@ -3,7 +3,8 @@ use Rattle.std.proofs.lemmas.Bool.{false≢true}
 use Rattle.pg_maps.specs.declared.grid_map.GridMap.{GridMap}
 use Rattle.pg_maps.specs.GridMaps.{number_of, identity}
 use Rattle.pg_maps.specs.Images.{AreFitting}
-use Rattle.pg_maps.proofs.Listing.{AreFitting-first, AreFitting-alone, AreFitting-same, AreFitting-plain}
+use Rattle.pg_maps.proofs.Listing.{AreFitting-first, AreFitting-alone, AreFitting-same}
+use Rattle.pg_maps.proofs.Listing.{AreFitting-plain}
 use Rattle.pg_maps.proofs.Numbers.{number-numbered}
 use Rattle.pg_maps.proofs.fitting.is_symmetric.Goals as goal
 

@@ -1,6 +1,7 @@
 use Rattle.pg_maps.specs.Images.{image_position}
 use Rattle.pg_maps.proofs.Criteria.{free_points-image}
-use Rattle.pg_maps.proofs.Positions.{IsImage-position, IsPosition-image, IsNoWorse-image, replies-image}
+use Rattle.pg_maps.proofs.Positions.{IsImage-position, IsPosition-image, IsNoWorse-image}
+use Rattle.pg_maps.proofs.Positions.{replies-image}
 use Rattle.pg_maps.proofs.laws.automorphisms_keep_replies.Goals as goal
 
 pub returns : goal.returns

@@ -1,5 +1,6 @@
 use Rattle.pg_maps.proofs.Imaging.{IsImage-after}
-use Rattle.pg_maps.proofs.Positions.{IsImage-position, IsPosition-image, IsImage-unique, IsImage-further, IsImage-undone, image_position-stays}
+use Rattle.pg_maps.proofs.Positions.{IsImage-position, IsPosition-image, IsImage-unique}
+use Rattle.pg_maps.proofs.Positions.{IsImage-further, IsImage-undone, image_position-stays}
 use Rattle.pg_maps.proofs.laws.images_are_positions.Goals as goal
 
 pub returns : goal.returns

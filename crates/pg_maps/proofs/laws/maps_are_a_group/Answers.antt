@@ -1,6 +1,8 @@
 use Rattle.std.proofs.Common.{sym}
-use Rattle.pg_maps.proofs.Numbers.{followed-associative, identity-followed, followed-identity, followed-reverse, reverse-followed}
-use Rattle.pg_maps.proofs.Turning.{AreInverse-map, image-followed, image-identity, IsMapOf-followed, IsMapOf-reverse}
+use Rattle.pg_maps.proofs.Numbers.{followed-associative, identity-followed, followed-identity}
+use Rattle.pg_maps.proofs.Numbers.{followed-reverse, reverse-followed}
+use Rattle.pg_maps.proofs.Turning.{AreInverse-map, image-followed, image-identity, IsMapOf-followed}
+use Rattle.pg_maps.proofs.Turning.{IsMapOf-reverse}
 use Rattle.pg_maps.proofs.laws.maps_are_a_group.Goals as goal
 
 pub returns : goal.returns

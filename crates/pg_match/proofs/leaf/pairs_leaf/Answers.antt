@@ -5,7 +5,9 @@ use Rattle.pg_match.specs.Private.{IsMatching, IsShort}
 use Rattle.pg_match.specs.Meant.{AreMeant}
 use Rattle.pg_match.specs.Cache.{asked}
 use Rattle.pg_match.proofs.Asking.{free-in_game}
-use Rattle.pg_match.proofs.LeafTests.{lines-from_field, no_lines-from_field, none-without_lines, none-unpairable, meant-from, none-short, some-found, hold-found}
+use Rattle.pg_match.proofs.LeafTests.{lines-from_field, no_lines-from_field, none-without_lines}
+use Rattle.pg_match.proofs.LeafTests.{none-unpairable, meant-from, none-short, some-found}
+use Rattle.pg_match.proofs.LeafTests.{hold-found}
 use Rattle.pg_match.proofs.leaf.pairs_leaf.Goals as goal
 
 pub returns-in_default-clause-exist : goal.returns-in_default-clause-exist

@@ -1,7 +1,8 @@
 use Rattle.std.proofs.Common.{◌&&◌, not, None, List, Vec, Global, sym, ap, ◌∙◌, subst, arith}
 use Rattle.pg_match.proofs.Common.{contains, Pair, is_free, is_paired}
 use Rattle.pg_match.specs.Meant.{PairsOn}
-use Rattle.pg_match.proofs.Asking.{passing_none, pairs_on-none, pairs_on-passing_to, pairs_on-skipped_to, rest-from_pairs_on}
+use Rattle.pg_match.proofs.Asking.{passing_none, pairs_on-none, pairs_on-passing_to}
+use Rattle.pg_match.proofs.Asking.{pairs_on-skipped_to, rest-from_pairs_on}
 use Rattle.pg_match.proofs.rest.with_rest.Goals as goal
 use Rattle.pg_match.proofs.rest.with_rest.Goals.{then-is_left_over+in_ok-waiting, else-is_left_over}
 

@@ -1,5 +1,6 @@
 use Rattle.std.proofs.Common.{not, sym, ◌∙◌, arith}
-use Rattle.pg_pairing.proofs.Common.{contains, is_free, free_points, point_count, first_below, none_below}
+use Rattle.pg_pairing.proofs.Common.{contains, is_free, free_points, point_count, first_below}
+use Rattle.pg_pairing.proofs.Common.{none_below}
 use Rattle.pg_pairing.proofs.answers.lowest_outside.Goals as goal
 
 pub returns-then-is_outside : goal.returns-then-is_outside

@@ -1,5 +1,6 @@
 use Rattle.std.proofs.Common.{◌≡◌, ◌&&◌, not, sym, ◌∙◌, arith}
-use Rattle.pg_pairing.proofs.Common.{contains, is_free, passed-none, passed-more, passed-same, passed-both}
+use Rattle.pg_pairing.proofs.Common.{contains, is_free, passed-none, passed-more, passed-same}
+use Rattle.pg_pairing.proofs.Common.{passed-both}
 use Rattle.pg_pairing.proofs.condition.count_outside.Goals.{then-is_outside, else-is_outside}
 use Rattle.pg_pairing.proofs.condition.count_outside.Goals as goal
 

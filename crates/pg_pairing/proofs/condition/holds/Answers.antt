@@ -1,7 +1,8 @@
 use Rattle.std.proofs.Common.{sym, subst, refl}
 use Rattle.pg_pairing.proofs.Common.{Win, Side, PairsHold, Forces}
 use Rattle.pg_pairing.proofs.PairLoops.{PairsHold-from}
-use Rattle.pg_pairing.proofs.PairLaws.{Forces-pairs_breaker, Forces-pairs_draw, Forces-pairs_avoider}
+use Rattle.pg_pairing.proofs.PairLaws.{Forces-pairs_breaker, Forces-pairs_draw}
+use Rattle.pg_pairing.proofs.PairLaws.{Forces-pairs_avoider}
 use Rattle.pg_pairing.proofs.condition.holds.Goals as goal
 
 pub hold_lines-requires : goal.hold_lines-requires

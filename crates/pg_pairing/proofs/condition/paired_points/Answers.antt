@@ -1,6 +1,7 @@
 use Rattle.std.proofs.Common.{◌∙◌, sym, ap, refl}
 use Rattle.pg_pairing.proofs.Common.{false≢true, contains, contains-empty, nat_cmp}
-use Rattle.pg_pairing.proofs.PairLoops.{AreOpenPairs-none, AreOpenPairs-more, CanTake-at, taken-more}
+use Rattle.pg_pairing.proofs.PairLoops.{AreOpenPairs-none, AreOpenPairs-more, CanTake-at}
+use Rattle.pg_pairing.proofs.PairLoops.{taken-more}
 use Rattle.pg_pairing.proofs.condition.paired_points.Goals as goal
 
 pub loop-s-init : goal.loop-s-init

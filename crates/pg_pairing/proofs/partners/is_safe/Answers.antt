@@ -1,6 +1,8 @@
-use Rattle.std.proofs.Common.{◌≡◌, ◌+◌, ◌<◌, ◌≤◌, ◌∙◌, ℕ, List, true, false, length, get_or, refl, sym, ap, subst}
+use Rattle.std.proofs.Common.{◌≡◌, ◌+◌, ◌<◌, ◌≤◌, ◌∙◌, ℕ, List, true, false, length, get_or, refl}
+use Rattle.std.proofs.Common.{sym, ap, subst}
 use Rattle.pg_pairing.proofs.Common.{false≢true, contains, contains-empty, insert, nat_cmp}
-use Rattle.pg_pairing.proofs.PartnerSteps.{passed-none, passed-more, touched-at, holds-at, unsafe-end}
+use Rattle.pg_pairing.proofs.PartnerSteps.{passed-none, passed-more, touched-at, holds-at}
+use Rattle.pg_pairing.proofs.PartnerSteps.{unsafe-end}
 use Rattle.pg_pairing.proofs.partners.is_safe.Goals as goal
 
 pub loop-v-init : goal.loop-v-init

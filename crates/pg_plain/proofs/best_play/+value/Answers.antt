@@ -1,6 +1,9 @@
-use Rattle.std.proofs.Common.{rules, ◌≡◌, ◌-◌, ◌+◌, ◌<◌, length, true, false, sym, ap, ◌∙◌, subst, arith}
-use Rattle.pg_plain.proofs.Common.{Position, AreBelow, is_free, point_count, free_points, after, better, value, length-free_points-after}
-use Rattle.pg_plain.proofs.BestPlay.{best_from, best-free, best-all, x_range-after, over-none, over-some}
+use Rattle.std.proofs.Common.{rules, ◌≡◌, ◌-◌, ◌+◌, ◌<◌, length, true, false, sym, ap, ◌∙◌, subst}
+use Rattle.std.proofs.Common.{arith}
+use Rattle.pg_plain.proofs.Common.{Position, AreBelow, is_free, point_count, free_points, after}
+use Rattle.pg_plain.proofs.Common.{better, value, length-free_points-after}
+use Rattle.pg_plain.proofs.BestPlay.{best_from, best-free, best-all, x_range-after, over-none}
+use Rattle.pg_plain.proofs.BestPlay.{over-some}
 use Rattle.pg_plain.proofs.MovesFrom.{from-none, from-taken}
 use Rattle.pg_plain.proofs.best_play.+value.Goals as goal
 

@@ -1,7 +1,8 @@
 use Rattle.std.proofs.Common.{Some, sym, ap, ◌∙◌}
 use Rattle.pg_game.specs.Decided.{at_least, answer_for, pairs_exist}
 use Rattle.pg_plain.proofs.BestPlay.{over-none}
-use Rattle.pg_plain.proofs.CriteriaLaws.{told-over, at-end, by-potential, by-threat, by-pairs, by-none}
+use Rattle.pg_plain.proofs.CriteriaLaws.{told-over, at-end, by-potential, by-threat, by-pairs}
+use Rattle.pg_plain.proofs.CriteriaLaws.{by-none}
 use Rattle.pg_plain.proofs.criteria.decided.Goals as goal
 
 pub returns-in-Some-clause-decided : goal.returns-in-Some-clause-decided

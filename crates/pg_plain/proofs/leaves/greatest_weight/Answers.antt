@@ -1,5 +1,6 @@
 use Rattle.std.proofs.Common.{◌≡◌, sym, ◌∙◌, arith}
-use Rattle.pg_plain.proofs.Common.{is_free, weight, running-none, running-next, running-all, few_points-lines}
+use Rattle.pg_plain.proofs.Common.{is_free, weight, running-none, running-next, running-all}
+use Rattle.pg_plain.proofs.Common.{few_points-lines}
 use Rattle.pg_plain.proofs.leaves.greatest_weight.Goals.{then-weight-greatest, else-weight-greatest}
 use Rattle.pg_plain.proofs.leaves.greatest_weight.Goals as goal
 

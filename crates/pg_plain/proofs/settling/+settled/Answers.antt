@@ -1,8 +1,11 @@
-use Rattle.std.proofs.Common.{rules, ◌≡◌, ◌-◌, ◌+◌, ◌<◌, Option, Bool, length, true, false, sym, ap, ◌∙◌, subst, arith}
-use Rattle.pg_plain.proofs.Common.{Position, AreBelow, is_free, point_count, free_points, after, settled, length-free_points-after, settle-unlisted}
+use Rattle.std.proofs.Common.{rules, ◌≡◌, ◌-◌, ◌+◌, ◌<◌, Option, Bool, length, true, false, sym, ap}
+use Rattle.std.proofs.Common.{◌∙◌, subst, arith}
+use Rattle.pg_plain.proofs.Common.{Position, AreBelow, is_free, point_count, free_points, after}
+use Rattle.pg_plain.proofs.Common.{settled, length-free_points-after, settle-unlisted}
 use Rattle.pg_plain.specs.Known.{with_move}
 use Rattle.pg_plain.proofs.BestPlay.{x_range-after}
-use Rattle.pg_plain.proofs.SettleSteps.{known_from, known-free, known-all, known-decided, known-undecided}
+use Rattle.pg_plain.proofs.SettleSteps.{known_from, known-free, known-all, known-decided}
+use Rattle.pg_plain.proofs.SettleSteps.{known-undecided}
 use Rattle.pg_plain.proofs.MovesFrom.{from-none, from-taken}
 use Rattle.pg_plain.proofs.settling.+settled.Goals as goal
 

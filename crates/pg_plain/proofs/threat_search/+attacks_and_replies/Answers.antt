@@ -1,7 +1,8 @@
 use Rattle.std.proofs.Common.{◌≤◌, ◌-◌, refl, sym, ap, ◌∙◌, subst, arith}
 use Rattle.pg_plain.proofs.Common.{false≢true, Position, after}
 use Rattle.pg_plain.specs.Attacks.{LeadsWithin, IsReply, ReplyLeads}
-use Rattle.pg_plain.proofs.ThreatSearches.{within-filling, within-reply, within-none, reply-range, none-more}
+use Rattle.pg_plain.proofs.ThreatSearches.{within-filling, within-reply, within-none, reply-range}
+use Rattle.pg_plain.proofs.ThreatSearches.{none-more}
 use Rattle.pg_plain.proofs.threat_search.+attacks_and_replies.Goals as goal
 use Rattle.pg_plain.proofs.threat_search.+attacks_and_replies.Goals.{reply_leads-else-is_forcing-via-then-is_forcing+else-leads_within, reply_leads-else-is_forcing-via-else-is_forcing}
 

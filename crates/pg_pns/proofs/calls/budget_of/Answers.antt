@@ -1,5 +1,6 @@
 use Rattle.std.proofs.Common.{◌≡◌, ◌∙◌, ◌≤◌, ◌<◌, ◌*◌, ℕ, zero, suc, length, sym, ap, subst, arith}
-use Rattle.pg_pns.proofs.Common.{div-mul-le_self, mul-le-mul_right, cond-true, cond-false, lt-ltb, le-ltb, Game, Position, free_points, start}
+use Rattle.pg_pns.proofs.Common.{div-mul-le_self, mul-le-mul_right, cond-true, cond-false, lt-ltb}
+use Rattle.pg_pns.proofs.Common.{le-ltb, Game, Position, free_points, start}
 use Rattle.std.proofs.lemmas.Nat.{le-div}
 use Rattle.std.specs.FinSet.{FinSet, len}
 use Rattle.std.specs.Ordering.{nat_cmp}

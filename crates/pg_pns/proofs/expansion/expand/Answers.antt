@@ -1,5 +1,8 @@
-use Rattle.std.proofs.Common.{◌≡◌, ◌∙◌, ◌<◌, ◌++◌, ◌∷◌, [], ℕ, List, slice_get, slice_set, get_or, length, refl, sym, ap, subst, arith}
-use Rattle.pg_pns.proofs.Common.{slice_get_within, slice_get_read, with_items_is, length-set, with_items, Position, Game, Score, IsPosition, point_count, View, IsAt, one_at}
+use Rattle.std.proofs.Common.{◌≡◌, ◌∙◌, ◌<◌, ◌++◌, ◌∷◌, [], ℕ, List, slice_get, slice_set, get_or}
+use Rattle.std.proofs.Common.{length, refl, sym, ap, subst, arith}
+use Rattle.pg_pns.proofs.Common.{slice_get_within, slice_get_read, with_items_is, length-set}
+use Rattle.pg_pns.proofs.Common.{with_items, Position, Game, Score, IsPosition, point_count, View}
+use Rattle.pg_pns.proofs.Common.{IsAt, one_at}
 use Rattle.pg_pns.specs.declared.table.Table.{Table}
 use Rattle.pg_pns.specs.Search.{CanGrow, IsGrowing, IsSearch}
 use Rattle.pg_pns.proofs.Moving.{growing-start, growing-taken}

@@ -1,5 +1,7 @@
-use Rattle.std.proofs.Common.{◌≡◌, ◌+◌, ◌*◌, ◌≤◌, ℕ, Option, Some, None, List, length, sym, ap, subst, arith}
-use Rattle.pg_pns.proofs.Common.{IfNone, some≢none, mul-le-mul_right, keys_of, IsTable, Position, View}
+use Rattle.std.proofs.Common.{◌≡◌, ◌+◌, ◌*◌, ◌≤◌, ℕ, Option, Some, None, List, length, sym, ap}
+use Rattle.std.proofs.Common.{subst, arith}
+use Rattle.pg_pns.proofs.Common.{IfNone, some≢none, mul-le-mul_right, keys_of, IsTable, Position}
+use Rattle.pg_pns.proofs.Common.{View}
 use Rattle.pg_pns.specs.declared.limits.TheConstants.{MAX_EXPANDED_MOVES}
 use Rattle.pg_pns.proofs.Searching.{open-table}
 use Rattle.pg_pns.proofs.TableLaws.{table-none}

@@ -1,5 +1,7 @@
-use Rattle.std.proofs.Common.{◌≡◌, ◌∙◌, ◌<◌, ◌+◌, ◌++◌, ◌∷◌, [], ℕ, List, Some, slice_get, slice_set, get_or, length, refl, sym, ap, subst, arith, rules}
-use Rattle.pg_pns.proofs.Common.{slice_get_within, slice_get-get_or, with_items_is, with_items, after}
+use Rattle.std.proofs.Common.{◌≡◌, ◌∙◌, ◌<◌, ◌+◌, ◌++◌, ◌∷◌, [], ℕ, List, Some, slice_get}
+use Rattle.std.proofs.Common.{slice_set, get_or, length, refl, sym, ap, subst, arith, rules}
+use Rattle.pg_pns.proofs.Common.{slice_get_within, slice_get-get_or, with_items_is, with_items}
+use Rattle.pg_pns.proofs.Common.{after}
 use Rattle.pg_pns.specs.Search.{IsGrowing}
 use Rattle.pg_pns.proofs.Moving.{growing-move}
 use Rattle.pg_pns.proofs.expansion.meet_move.Goals as goal

@@ -1,5 +1,8 @@
-use Rattle.std.proofs.Common.{◌≡◌, ◌<◌, ◌∙◌, ◌++◌, ◌∷◌, [], ℕ, List, get_or, length, length-append, refl, sym, ap, subst, arith}
-use Rattle.pg_pns.proofs.Common.{slice_get_read, slice_get_within, keys_of, Contains, Position, Game, Score, IsTable, View, start, one_at, contains_at, at_old, at_new}
+use Rattle.std.proofs.Common.{◌≡◌, ◌<◌, ◌∙◌, ◌++◌, ◌∷◌, [], ℕ, List, get_or, length, length-append}
+use Rattle.std.proofs.Common.{refl, sym, ap, subst, arith}
+use Rattle.pg_pns.proofs.Common.{slice_get_read, slice_get_within, keys_of, Contains, Position}
+use Rattle.pg_pns.proofs.Common.{Game, Score, IsTable, View, start, one_at, contains_at, at_old}
+use Rattle.pg_pns.proofs.Common.{at_new}
 use Rattle.pg_pns.specs.declared.table.Table.{Table}
 use Rattle.pg_pns.specs.Search.{IsSearch, IsNext, CanGrow}
 use Rattle.pg_pns.proofs.Searching.{next-in, can-grow, few-from}

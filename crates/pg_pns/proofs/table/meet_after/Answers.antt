@@ -1,5 +1,6 @@
 use Rattle.std.proofs.Common.{◌≡◌, ◌<◌, ◌∙◌, IfOk, true, arith, sym, ap, subst}
-use Rattle.pg_pns.proofs.Common.{Game, Position, IsPosition, View, after, is_free, point_count, point_count-le}
+use Rattle.pg_pns.proofs.Common.{Game, Position, IsPosition, View, after, is_free, point_count}
+use Rattle.pg_pns.proofs.Common.{point_count-le}
 use Rattle.pg_game.proofs.Moves.{IsPosition-after}
 use Rattle.pg_threat.proofs.Boards.{one-earlier, taken-back}
 use Rattle.pg_pns.specs.Tree.{IsMetAt}

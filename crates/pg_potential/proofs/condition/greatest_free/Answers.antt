@@ -1,7 +1,9 @@
 use Rattle.std.proofs.Common.{◌≡◌, get_or, sym, ◌∙◌, arith}
-use Rattle.pg_potential.proofs.Common.{is_free, running-none, running-next, running-all, few_points-lines}
+use Rattle.pg_potential.proofs.Common.{is_free, running-none, running-next, running-all}
+use Rattle.pg_potential.proofs.Common.{few_points-lines}
 use Rattle.pg_potential.proofs.Raised.{weight-raised}
-use Rattle.pg_potential.proofs.condition.greatest_free.Goals.{then-weight-greatest, else-weight-greatest}
+use Rattle.pg_potential.proofs.condition.greatest_free.Goals.{then-weight-greatest}
+use Rattle.pg_potential.proofs.condition.greatest_free.Goals.{else-weight-greatest}
 use Rattle.pg_potential.proofs.condition.greatest_free.Goals as goal
 
 pub loop-v-init : goal.loop-v-init

@@ -1,4 +1,5 @@
-use Rattle.std.proofs.Common.{◌≡◌, ◌∙◌, ◌+◌, ◌<◌, ◌++◌, [], ◌∷◌, take, sym, ap, arith, slice_index_or}
+use Rattle.std.proofs.Common.{◌≡◌, ◌∙◌, ◌+◌, ◌<◌, ◌++◌, [], ◌∷◌, take, sym, ap, arith}
+use Rattle.std.proofs.Common.{slice_index_or}
 use Rattle.pg_record.proofs.Common.{take_more, Position, after, point_count, start, point_count-le}
 use Rattle.pg_record.specs.Replay.{position_after}
 use Rattle.pg_record.proofs.Standing.{legal-point, played-more}

@@ -1,5 +1,6 @@
 use Rattle.std.proofs.Common.{◌∙◌, ◌≡◌, ◌/◌, ◌++◌, ap, ap₂, arith, get_or, map, sym, refl}
-use Rattle.pg_scene.proofs.Common.{decimal, Vec, filter, range_with_len, free_points, point_count, is_free}
+use Rattle.pg_scene.proofs.Common.{decimal, Vec, filter, range_with_len, free_points, point_count}
+use Rattle.pg_scene.proofs.Common.{is_free}
 use Rattle.pg_scene.proofs.Growing.{failed, passed}
 use Rattle.pg_scene.proofs.Lightest.{base_some}
 use Rattle.pg_scene.proofs.Scaled.{units_by-weight}
@@ -7,7 +8,8 @@ use Rattle.pg_scene.specs.Items.{base_of, own_of, units}
 use Rattle.pg_scene.specs.declared.item.Item.{Item}
 use Rattle.pg_scene.specs.declared.item.Item.TheVariants.{Weight}
 use Rattle.pg_scene.proofs.weights.put_each.Goals as goal
-use Rattle.pg_scene.proofs.weights.put_each.Goals.{then-is_free+in_ok-weight+in_ok-push, else-is_free}
+use Rattle.pg_scene.proofs.weights.put_each.Goals.{then-is_free+in_ok-weight+in_ok-push}
+use Rattle.pg_scene.proofs.weights.put_each.Goals.{else-is_free}
 
 pub loop-v-preserved : goal.loop-v-preserved
 loop-v-preserved c =

@@ -1,5 +1,6 @@
 use Rattle.pg_sessions.proofs.Common.{err_from_is_err_and, IsLackingOne}
-use Rattle.pg_sessions.proofs.Opened.{causes_more, halts_game, lacks_record, left-of-names, runs_record}
+use Rattle.pg_sessions.proofs.Opened.{causes_more, halts_game, lacks_record, left-of-names}
+use Rattle.pg_sessions.proofs.Opened.{runs_record}
 use Rattle.pg_sessions.specs.Along.{IsAlong, IsReached}
 use Rattle.pg_sessions.specs.Review.{IsReviewLacking, moves_held}
 use Rattle.pg_sessions.proofs.command.review.Goals as goal

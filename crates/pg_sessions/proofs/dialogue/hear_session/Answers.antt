@@ -2,7 +2,8 @@ use Rattle.std.proofs.Common.{◌<◌, ◌∙◌, ◌+◌, ap, arith, length, su
 use Rattle.pg_sessions.proofs.Common.{err_from_is_err_and, Recorded, MAX_EVENTS, OUT_OF_REPLIES}
 use Rattle.pg_sessions.specs.SessionLog.{Closes, Over, after_event}
 use Rattle.pg_sessions.specs.Turns.{turned}
-use Rattle.pg_sessions.proofs.Sessions.{event_goes_on, refusal_ends, refusal_goes_on, turn_breaks, turn_leads}
+use Rattle.pg_sessions.proofs.Sessions.{event_goes_on, refusal_ends, refusal_goes_on, turn_breaks}
+use Rattle.pg_sessions.proofs.Sessions.{turn_leads}
 use Rattle.pg_sessions.proofs.dialogue.hear_session.Goals as goal
 
 pub returns-in_err-take_turn-clause-course : goal.returns-in_err-take_turn-clause-course

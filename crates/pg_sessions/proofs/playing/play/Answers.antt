@@ -1,5 +1,6 @@
 use Rattle.std.proofs.Common.{◌∙◌, arith, inl, refl, subst, sym}
-use Rattle.pg_sessions.proofs.Common.{false≢true, point_count-le, IsPosition-after, IsPosition-start, start, IsPosition, Position}
+use Rattle.pg_sessions.proofs.Common.{false≢true, point_count-le, IsPosition-after}
+use Rattle.pg_sessions.proofs.Common.{IsPosition-start, start, IsPosition, Position}
 use Rattle.pg_sessions.specs.Known.{HaveNodes}
 use Rattle.pg_sessions.proofs.Standing.{known-kept, leaves-one, next-at}
 use Rattle.pg_sessions.proofs.playing.play.Goals as goal

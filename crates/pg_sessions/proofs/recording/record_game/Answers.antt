@@ -1,9 +1,11 @@
 use Rattle.std.proofs.Common.{[], Err, ap, refl, subst}
-use Rattle.pg_sessions.proofs.Common.{err_from_is_err_and, Game, Stop, Memory, Recorded, stopped_first, OUT_OF_REPLIES}
+use Rattle.pg_sessions.proofs.Common.{err_from_is_err_and, Game, Stop, Memory, Recorded}
+use Rattle.pg_sessions.proofs.Common.{stopped_first, OUT_OF_REPLIES}
 use Rattle.pg_sessions.specs.Course.{BreaksOff, Course}
 use Rattle.pg_sessions.specs.Recording.{RecordsGame}
 use Rattle.pg_sessions.specs.SessionLog.{Closes, IsOpen, Listens, Over, Steps}
-use Rattle.pg_sessions.proofs.Records.{records_broken, records_refused, records_stored, stored_gives}
+use Rattle.pg_sessions.proofs.Records.{records_broken, records_refused, records_stored}
+use Rattle.pg_sessions.proofs.Records.{stored_gives}
 use Rattle.pg_sessions.proofs.recording.record_game.Goals as goal
 
 pub returns-in_err-session-clause-recorded : goal.returns-in_err-session-clause-recorded

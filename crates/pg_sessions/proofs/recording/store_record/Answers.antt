@@ -1,5 +1,6 @@
 use Rattle.std.proofs.Common.{◌∙◌, ℕ, [], ◌∷◌, refl, subst}
-use Rattle.pg_sessions.proofs.Common.{err_from_is_err_and, Bytes, Memory, recorded_text, Does, Delivers, stopped_first}
+use Rattle.pg_sessions.proofs.Common.{err_from_is_err_and, Bytes, Memory, recorded_text, Does}
+use Rattle.pg_sessions.proofs.Common.{Delivers, stopped_first}
 use Rattle.pg_sessions.specs.Recording.{record_file}
 use Rattle.pg_sessions.specs.SessionLog.{standing_count}
 use Rattle.pg_sessions.proofs.recording.store_record.Goals as goal

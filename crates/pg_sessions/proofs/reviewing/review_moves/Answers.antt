@@ -1,7 +1,14 @@
-use Rattle.std.proofs.Common.{◌≡◌, ◌∙◌, ℕ, suc, ◌+◌, ◌<◌, ◌≤◌, true, false, [], ◌∷◌, length, map, take, Option, None, Ok, IfSome, slice_index_or, refl, sym, ap, subst, arith}
-use Rattle.pg_sessions.proofs.Common.{err_from_is_err_and, after, start, Grows, Said, Memory, reviewed_text, unknown_at_text}
-use Rattle.pg_sessions.proofs.SaidSoFar.{at-start, cut-short, goes-on, may-play, none-yet, one-behind, position-there, reviewed, said-more, stands-more, stays-open, still, there}
-use Rattle.pg_sessions.proofs.Searched.{among-first, among-next, decided-more, in-time, in-time-so-far, known-here, known-next, left-along, untold-next}
+use Rattle.std.proofs.Common.{◌≡◌, ◌∙◌, ℕ, suc, ◌+◌, ◌<◌, ◌≤◌, true, false, [], ◌∷◌, length, map}
+use Rattle.std.proofs.Common.{take, Option, None, Ok, IfSome, slice_index_or, refl, sym, ap, subst}
+use Rattle.std.proofs.Common.{arith}
+use Rattle.pg_sessions.proofs.Common.{err_from_is_err_and, after, start, Grows, Said, Memory}
+use Rattle.pg_sessions.proofs.Common.{reviewed_text, unknown_at_text}
+use Rattle.pg_sessions.proofs.SaidSoFar.{at-start, cut-short, goes-on, may-play, none-yet}
+use Rattle.pg_sessions.proofs.SaidSoFar.{one-behind, position-there, reviewed, said-more}
+use Rattle.pg_sessions.proofs.SaidSoFar.{stands-more, stays-open, still, there}
+use Rattle.pg_sessions.proofs.Searched.{among-first, among-next, decided-more, in-time}
+use Rattle.pg_sessions.proofs.Searched.{in-time-so-far, known-here, known-next, left-along}
+use Rattle.pg_sessions.proofs.Searched.{untold-next}
 use Rattle.pg_sessions.proofs.Standing.{known-value, leaves-one}
 use Rattle.pg_sessions.specs.Known.{IsKnown, IsSolvedBy}
 use Rattle.pg_sessions.specs.Review.{IsGameAt, loss_texts}

@@ -1,6 +1,7 @@
 use Rattle.std.proofs.Common.{ℕ, subst, arith}
 use Rattle.std.proofs.lemmas.Result.{IfOk-weaker, IfOk-at_ok}
-use Rattle.pg_solve.proofs.Finding.{found-kind, found-true, found-claims, found-valid, found-within, found-version, found-shown, found-last}
+use Rattle.pg_solve.proofs.Finding.{found-kind, found-true, found-claims, found-valid, found-within}
+use Rattle.pg_solve.proofs.Finding.{found-version, found-shown, found-last}
 use Rattle.pg_solve.specs.Left.{IsLeft, IsLeftOpen}
 use Rattle.pg_solve.specs.Solved.{IsFoundBy}
 use Rattle.pg_solve.proofs.solving.solve.Goals as goal

@@ -1,6 +1,7 @@
 use Rattle.std.proofs.Common.{◌<◌, ℕ, Option, sym, ap, ◌∙◌, ◌&&◌, arith}
 use Rattle.std.specs.Prelude.{unwrap_or, slice_index}
-use Rattle.pg_span.proofs.Common.{and_from, edge_count, first_end_of, second_end_of, is_free, lowest_free_edge, crosses, first_below, none_below}
+use Rattle.pg_span.proofs.Common.{and_from, edge_count, first_end_of, second_end_of, is_free}
+use Rattle.pg_span.proofs.Common.{lowest_free_edge, crosses, first_below, none_below}
 use Rattle.pg_span.proofs.answers.parts_edge.Goals as goal
 
 pub returns-then-crosses : goal.returns-then-crosses

@@ -1,10 +1,14 @@
-use Rattle.std.proofs.Common.{◌≡◌, ◌<◌, ℕ, Bool, true, false, List, length, inl, inr, sym, ap, ◌∙◌, subst, arith}
+use Rattle.std.proofs.Common.{◌≡◌, ◌<◌, ℕ, Bool, true, false, List, length, inl, inr, sym, ap, ◌∙◌}
+use Rattle.std.proofs.Common.{subst, arith}
 use Rattle.std.specs.Prelude.{slice_index}
-use Rattle.pg_span.proofs.Common.{contains, All, both_ways, cases_eq, either, both, outside, X, Y, either_cases, both_parts, minus_parts, minus_from, AreLabels}
+use Rattle.pg_span.proofs.Common.{contains, All, both_ways, cases_eq, either, both, outside, X, Y}
+use Rattle.pg_span.proofs.Common.{either_cases, both_parts, minus_parts, minus_from, AreLabels}
 use Rattle.pg_exchange.proofs.Tests.{of_either, of_outside, without_point}
 use Rattle.pg_span.specs.Game.{marks_at}
 use Rattle.pg_span.specs.Valid.{ArePartsOfGame}
-use Rattle.pg_span.proofs.SolveLemmas.{small, labels_below, parts_apart, parts_shared, trees_none, trees_one, shared_one, shared_two, some_member, no_member, outside_twice}
+use Rattle.pg_span.proofs.SolveLemmas.{small, labels_below, parts_apart, parts_shared, trees_none}
+use Rattle.pg_span.proofs.SolveLemmas.{trees_one, shared_one, shared_two, some_member, no_member}
+use Rattle.pg_span.proofs.SolveLemmas.{outside_twice}
 use Rattle.pg_span.proofs.solve.find.Goals as goal
 
 pub labels-requires-clause-set : goal.labels-requires-clause-set

@@ -1,6 +1,7 @@
 use Rattle.std.proofs.Common.{ℕ, ap, ◌∙◌}
 use Rattle.pg_switch.proofs.Common.{remove, lowest_free_edge}
-use Rattle.pg_switch.proofs.Replying.{remove_edges, joined-edges, short-found, reply-some, reply-none}
+use Rattle.pg_switch.proofs.Replying.{remove_edges, joined-edges, short-found, reply-some}
+use Rattle.pg_switch.proofs.Replying.{reply-none}
 use Rattle.pg_switch.proofs.answers.short_reply.Goals as goal
 
 pub crossing-requires-clause-sets : goal.crossing-requires-clause-sets

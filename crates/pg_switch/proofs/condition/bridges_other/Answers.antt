@@ -1,6 +1,7 @@
 use Rattle.std.proofs.Common.{◌∙◌, ap, sym}
 use Rattle.std.specs.FinSet.{contains}
-use Rattle.pg_switch.proofs.Conditions.{insert_edges, left-without, left_set-edges, bridges_in-iff, bridges_out-iff}
+use Rattle.pg_switch.proofs.Conditions.{insert_edges, left-without, left_set-edges, bridges_in-iff}
+use Rattle.pg_switch.proofs.Conditions.{bridges_out-iff}
 use Rattle.pg_switch.proofs.condition.bridges_other.Goals as goal
 
 pub bridges_all-requires-clause-set : goal.bridges_all-requires-clause-set

@@ -1,5 +1,6 @@
 use Rattle.std.proofs.Common.{ℕ, Bool, not, ◌∙◌, sym, ap, refl}
-use Rattle.pg_switch.proofs.Common.{FinSet, contains, contains-empty, empty, nat_cmp, plus, below_none, below_in, below_out, contains-insert_plus}
+use Rattle.pg_switch.proofs.Common.{FinSet, contains, contains-empty, empty, nat_cmp, plus}
+use Rattle.pg_switch.proofs.Common.{below_none, below_in, below_out, contains-insert_plus}
 use Rattle.pg_switch.proofs.condition.edges_left.Goals.{then-not-has, else-not-has}
 use Rattle.pg_switch.proofs.condition.edges_left.Goals as goal
 

@@ -1,4 +1,5 @@
-use Rattle.std.proofs.Common.{◌≤◌, ◌<◌, ◌∙◌, ◌||◌, Bool, ℕ, List, length, get_or, ap, ap₂, sym, arith}
+use Rattle.std.proofs.Common.{◌≤◌, ◌<◌, ◌∙◌, ◌||◌, Bool, ℕ, List, length, get_or, ap, ap₂, sym}
+use Rattle.std.proofs.Common.{arith}
 use Rattle.pg_threat.proofs.Common.{list_any_more, lines_of, line_at, lines_holding}
 use Rattle.pg_threat.specs.Lacking.{is_gained}
 use Rattle.pg_threat.proofs.Partners.{through-low, gained-none}

@@ -1,4 +1,5 @@
-use Rattle.std.proofs.Common.{◌<◌, ◌≤◌, ◌==◌, ◌||◌, ◌∙◌, sym, ap, ap₂, arith, length, eq-eqb, ne_eqb, Bool}
+use Rattle.std.proofs.Common.{◌<◌, ◌≤◌, ◌==◌, ◌||◌, ◌∙◌, sym, ap, ap₂, arith, length, eq-eqb}
+use Rattle.std.proofs.Common.{ne_eqb, Bool}
 use Rattle.pg_threat.proofs.Common.{take_all, list_any_at, list_any_more, is_on, line_at}
 use Rattle.pg_threat.proofs.lacking.holds.Goals as goal
 

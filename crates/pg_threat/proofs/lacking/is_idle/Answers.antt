@@ -1,4 +1,5 @@
-use Rattle.std.proofs.Common.{◌≡◌, ◌<◌, ◌≤◌, ◌+◌, ◌∙◌, ℕ, List, length, get_or, ap, sym, subst, inl, inr, arith}
+use Rattle.std.proofs.Common.{◌≡◌, ◌<◌, ◌≤◌, ◌+◌, ◌∙◌, ℕ, List, length, get_or, ap, sym, subst, inl}
+use Rattle.std.proofs.Common.{inr, arith}
 use Rattle.pg_threat.proofs.Common.{cases_eq, other, lines_of, line_at, lines_holding}
 use Rattle.pg_threat.specs.Lacking.{own_count, IsOutOfReach}
 use Rattle.pg_threat.proofs.Idle.{through-each}

@@ -1,5 +1,6 @@
 use Rattle.std.proofs.Common.{◌∙◌, sym, ap, eqb-true}
-use Rattle.pg_threat.proofs.Common.{not_from_false, false≢true, contains, Side, other, points_of, line_at, count_of, clear-any}
+use Rattle.pg_threat.proofs.Common.{not_from_false, false≢true, contains, Side, other, points_of}
+use Rattle.pg_threat.proofs.Common.{line_at, count_of, clear-any}
 use Rattle.pg_threat.proofs.lacking.is_in_reach.Goals as goal
 
 pub returns-then-count-ne0 : goal.returns-then-count-ne0

@@ -1,8 +1,10 @@
 use Rattle.std.proofs.Common.{arith, sym, ◌∙◌, ◌≡◌, ◌+◌, subst, ap}
-use Rattle.pg_threat.proofs.Common.{FinSet, contains, contains-empty, nat_cmp, Contains, other, Side, live_lines, live_with}
+use Rattle.pg_threat.proofs.Common.{FinSet, contains, contains-empty, nat_cmp, Contains, other}
+use Rattle.pg_threat.proofs.Common.{Side, live_lines, live_with}
 use Rattle.pg_threat.specs.Lacking.{IsNextLive}
 use Rattle.pg_threat.proofs.LineCounts.{none-lacking}
-use Rattle.pg_threat.proofs.Scans.{scan-over, scan-falls, twice-none, twice-first, twice-lacked, twice-other}
+use Rattle.pg_threat.proofs.Scans.{scan-over, scan-falls, twice-none, twice-first, twice-lacked}
+use Rattle.pg_threat.proofs.Scans.{twice-other}
 use Rattle.pg_threat.proofs.Walks.{first-live, next-live, live-listed}
 use Rattle.pg_threat.proofs.lacking.lacking.Goals as goal
 use Rattle.pg_threat.proofs.lacking.lacking.Goals.{then-count-missing, else-count-missing}

@@ -1,5 +1,6 @@
 use Rattle.std.proofs.Common.{◌≤◌, ◌<◌, ◌∙◌, ℕ, List, length, get_or, ap, sym, arith}
-use Rattle.pg_threat.proofs.Common.{FinSet, contains, contains-empty, nat_cmp, lines_of, lines_holding}
+use Rattle.pg_threat.proofs.Common.{FinSet, contains, contains-empty, nat_cmp, lines_of}
+use Rattle.pg_threat.proofs.Common.{lines_holding}
 use Rattle.pg_threat.proofs.Partners.{through-low, walk-lacked, walk-other, walk-over}
 use Rattle.pg_threat.proofs.lacking.partners.Goals as goal
 use Rattle.pg_threat.proofs.lacking.partners.Goals.{then-lacks, else-lacks}

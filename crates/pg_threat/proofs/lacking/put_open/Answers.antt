@@ -1,5 +1,6 @@
 use Rattle.std.proofs.Common.{arith, [], ◌≡◌, true, sym, ◌∙◌, ◌<◌, ◌==◌, length, eq-eqb}
-use Rattle.pg_threat.proofs.Common.{Contains-get_or, list_any_at, lines_of, is_on, near-range, line_at}
+use Rattle.pg_threat.proofs.Common.{Contains-get_or, list_any_at, lines_of, is_on, near-range}
+use Rattle.pg_threat.proofs.Common.{line_at}
 use Rattle.pg_threat.proofs.Scans.{put-step, skip-step, again-put, again-skip}
 use Rattle.pg_threat.proofs.lacking.put_open.Goals as goal
 use Rattle.pg_threat.proofs.lacking.put_open.Goals.{then-is_free, else-is_free}

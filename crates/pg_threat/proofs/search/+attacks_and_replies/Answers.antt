@@ -1,9 +1,16 @@
-use Rattle.std.proofs.Common.{◌≡◌, ◌<◌, ◌≤◌, ◌+◌, ◌-◌, ◌∷◌, ℕ, true, false, Some, None, refl, sym, ap, ◌∙◌, subst, arith}
+use Rattle.std.proofs.Common.{◌≡◌, ◌<◌, ◌≤◌, ◌+◌, ◌-◌, ◌∷◌, ℕ, true, false, Some, None, refl, sym}
+use Rattle.std.proofs.Common.{ap, ◌∙◌, subst, arith}
 use Rattle.std.specs.Prelude.{◌↔◌, length}
-use Rattle.pg_threat.proofs.Common.{contains, point_count, lines_of, after, is_free, IsAttack, LeadsToLine, IsAttacking, Game, Position, point_count-le, View}
+use Rattle.pg_threat.proofs.Common.{contains, point_count, lines_of, after, is_free, IsAttack}
+use Rattle.pg_threat.proofs.Common.{LeadsToLine, IsAttacking, Game, Position, point_count-le, View}
 use Rattle.pg_threat.specs.Lacking.{is_lacking, IsIdle, IsLackedTwice}
-use Rattle.pg_threat.specs.Search.{Begins, IsTried, IsFound, NoneBelow, Replied, IsAnswering, IsSearching}
-use Rattle.pg_threat.proofs.Searching.{far-lacked, replies-are, tried-depth, begins-depth, search-next, attack-free, attack-answering, attack-least, reply-attacking, reply-least, attack-fails, attack-found, attack-falls, search-over, reply-none, reply-one, reply-two, reply-free, reply-found, reply-fails, reply-barren}
+use Rattle.pg_threat.specs.Search.{Begins, IsTried, IsFound, NoneBelow, Replied, IsAnswering}
+use Rattle.pg_threat.specs.Search.{IsSearching}
+use Rattle.pg_threat.proofs.Searching.{far-lacked, replies-are, tried-depth, begins-depth}
+use Rattle.pg_threat.proofs.Searching.{search-next, attack-free, attack-answering, attack-least}
+use Rattle.pg_threat.proofs.Searching.{reply-attacking, reply-least, attack-fails, attack-found}
+use Rattle.pg_threat.proofs.Searching.{attack-falls, search-over, reply-none, reply-one, reply-two}
+use Rattle.pg_threat.proofs.Searching.{reply-free, reply-found, reply-fails, reply-barren}
 use Rattle.pg_threat.proofs.Idle.{reply-idle}
 use Rattle.pg_threat.proofs.Boards.{at_same, one-earlier, taken-back, two-played}
 use Rattle.pg_threat.proofs.search.+attacks_and_replies.Goals as goal

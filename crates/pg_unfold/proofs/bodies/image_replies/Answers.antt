@@ -1,5 +1,6 @@
 use Rattle.std.proofs.Common.{◌≡◌, ◌<◌, ◌+◌, List, length, take, get_or, sym, subst, arith, rules}
-use Rattle.pg_unfold.proofs.Common.{AllZip, take_all, get_or_default, all_zip_more, answers_always, Reply, number_of, reverse_of, image_on}
+use Rattle.pg_unfold.proofs.Common.{AllZip, take_all, get_or_default, all_zip_more, answers_always}
+use Rattle.pg_unfold.proofs.Common.{Reply, number_of, reverse_of, image_on}
 use Rattle.pg_unfold.specs.Marks.{IsPlaceOf}
 use Rattle.pg_unfold.specs.Unfolded.{IsReplyImage}
 use Rattle.pg_unfold.proofs.BoardMaps.{AreInverse-board}

@@ -1,5 +1,6 @@
 use Rattle.std.proofs.Common.{◌≡◌, ◌/◌, subst}
-use Rattle.pg_unfold.proofs.Common.{All-contains, position_of, Node, IsImageNode, Plain, number_of, image_on, image_position, GridMap}
+use Rattle.pg_unfold.proofs.Common.{All-contains, position_of, Node, IsImageNode, Plain, number_of}
+use Rattle.pg_unfold.proofs.Common.{image_on, image_position, GridMap}
 use Rattle.pg_unfold.specs.Marks.{IsPlaceOf}
 use Rattle.pg_unfold.specs.Unfolded.{IsBodyImage}
 use Rattle.pg_unfold.proofs.Placing.{Contains-at}

@@ -1,4 +1,5 @@
-use Rattle.std.proofs.Common.{◌≡◌, ◌+◌, ◌*◌, ◌/◌, ◌%◌, ◌<◌, length, set, true, Some, refl, ap, ◌∙◌, arith}
+use Rattle.std.proofs.Common.{◌≡◌, ◌+◌, ◌*◌, ◌/◌, ◌%◌, ◌<◌, length, set, true, Some, refl, ap, ◌∙◌}
+use Rattle.std.proofs.Common.{arith}
 use Rattle.pg_unfold.proofs.Common.{slice_get_read, Plain, Image, numbered, number_of, followed_by}
 use Rattle.pg_unfold.proofs.Handing.{hands-plain, hands-image}
 use Rattle.pg_unfold.proofs.met.hand_on.Goals as goal

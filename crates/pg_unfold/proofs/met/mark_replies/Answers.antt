@@ -1,4 +1,5 @@
-use Rattle.std.proofs.Common.{◌≡◌, ◌+◌, ◌*◌, ◌<◌, ◌≤◌, ℕ, List, [], ◌∷◌, ◌++◌, Bool, map, take, length, set, get_or, true, sym, ap, ◌∙◌, subst, arith}
+use Rattle.std.proofs.Common.{◌≡◌, ◌+◌, ◌*◌, ◌<◌, ◌≤◌, ℕ, List, [], ◌∷◌, ◌++◌, Bool, map, take}
+use Rattle.std.proofs.Common.{length, set, get_or, true, sym, ap, ◌∙◌, subst, arith}
 use Rattle.pg_unfold.proofs.Common.{take_more, map_push, length-set, All-get_or, Reply, Contains}
 use Rattle.pg_unfold.specs.Marks.{AreAdded}
 use Rattle.std.proofs.Common.{◌/◌, ◌%◌}

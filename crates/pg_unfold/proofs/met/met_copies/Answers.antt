@@ -1,4 +1,5 @@
-use Rattle.std.proofs.Common.{◌≡◌, ◌*◌, ◌-◌, length, replicate, false, true, set, List, Bool, ap, sym, ◌∙◌, subst, rules, arith}
+use Rattle.std.proofs.Common.{◌≡◌, ◌*◌, ◌-◌, length, replicate, false, true, set, List, Bool, ap}
+use Rattle.std.proofs.Common.{sym, ◌∙◌, subst, rules, arith}
 use Rattle.std.proofs.lemmas.List.{take_at}
 use Rattle.pg_unfold.specs.Marks.{AreMet}
 use Rattle.pg_unfold.proofs.MetCopies.{passed-none}

@@ -1,4 +1,5 @@
-use Rattle.std.proofs.Common.{◌≡◌, ◌-◌, ◌<◌, ℕ, length, ap, sym, ◌∙◌, true, false, Some, arith, subst}
+use Rattle.std.proofs.Common.{◌≡◌, ◌-◌, ◌<◌, ℕ, length, ap, sym, ◌∙◌, true, false, Some, arith}
+use Rattle.std.proofs.Common.{subst}
 use Rattle.pg_unfold.proofs.Common.{both_ways, slice_get-get_or, get_or_from_slice_get, IsMarked}
 use Rattle.pg_unfold.proofs.MetCopies.{passed-hand, passed-skip, AreMet-passed}
 use Rattle.pg_unfold.specs.Marks.{HasPassed}

@@ -1,11 +1,13 @@
 use Rattle.pg_unfold.proofs.Common.{Vec, slice_get_read, Image, numbered, number_of, followed_by}
 use mir.Val.{bool_byte}
-use Rattle.std.proofs.Common.{◌≡◌, ℕ, ◌+◌, ◌*◌, ◌/◌, ◌%◌, ◌<◌, List, length, cond, get_or, true, false, Bool, Some, slice_get, refl, sym, ap, ◌∙◌, subst, arith, rules}
+use Rattle.std.proofs.Common.{◌≡◌, ℕ, ◌+◌, ◌*◌, ◌/◌, ◌%◌, ◌<◌, List, length, cond, get_or, true}
+use Rattle.std.proofs.Common.{false, Bool, Some, slice_get, refl, sym, ap, ◌∙◌, subst, arith, rules}
 use Rattle.pg_unfold.specs.Marks.{ArePlacedBelow}
 use Rattle.pg_unfold.proofs.Placing.{below-length}
 use Rattle.pg_unfold.proofs.PlaceSteps.{placed-more_plain, placed-more_image}
 use Rattle.pg_unfold.proofs.places.places_of.Goals as goal
-use Rattle.pg_unfold.proofs.places.places_of.Goals.{in-Plain+in_ok-push-in-Plain, in-Image+in_ok-push-in-Image}
+use Rattle.pg_unfold.proofs.places.places_of.Goals.{in-Plain+in_ok-push-in-Plain}
+use Rattle.pg_unfold.proofs.places.places_of.Goals.{in-Image+in_ok-push-in-Image}
 
 byte : (b : Bool) → bool_byte b ≡ cond b 1 0
 byte true = refl

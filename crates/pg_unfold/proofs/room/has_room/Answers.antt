@@ -1,5 +1,7 @@
-use Rattle.std.proofs.Common.{◌≡◌, ◌+◌, ◌-◌, ◌++◌, ◌∷◌, [], List, length, take, refl, sym, ap, ◌∙◌, subst, arith, rules}
-use Rattle.pg_unfold.proofs.Common.{both_ways, false≢true, take_all, take_more, slice_get_read, ImageClaim}
+use Rattle.std.proofs.Common.{◌≡◌, ◌+◌, ◌-◌, ◌++◌, ◌∷◌, [], List, length, take, refl, sym, ap, ◌∙◌}
+use Rattle.std.proofs.Common.{subst, arith, rules}
+use Rattle.pg_unfold.proofs.Common.{both_ways, false≢true, take_all, take_more, slice_get_read}
+use Rattle.pg_unfold.proofs.Common.{ImageClaim}
 use Rattle.pg_unfold.specs.Flaws.{HaveRoom}
 use Rattle.pg_unfold.specs.Gathered.{AreCounted}
 use Rattle.pg_unfold.proofs.Rooms.{counted-none, counted-more, counted-room, counted-full}

@@ -1,4 +1,5 @@
-use Rattle.std.proofs.Common.{◌≡◌, ◌+◌, ◌++◌, ◌∷◌, [], List, length, take, refl, sym, ap, ◌∙◌, subst}
+use Rattle.std.proofs.Common.{◌≡◌, ◌+◌, ◌++◌, ◌∷◌, [], List, length, take, refl, sym, ap, ◌∙◌}
+use Rattle.std.proofs.Common.{subst}
 use Rattle.pg_unfold.proofs.Common.{take_all, take_more, slice_get_read, ImageClaim}
 use Rattle.pg_unfold.specs.Gathered.{AreGathered, IsFull, IsGatheredNext, TakesNext}
 use Rattle.pg_unfold.specs.declared.unfolding.Gathered.{Gathered}

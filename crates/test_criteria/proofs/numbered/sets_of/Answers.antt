@@ -4,7 +4,8 @@ use Rattle.std.specs.Ordering.{nat_cmp}
 use Rattle.pg_base.specs.Points.{AreBelow}
 use Rattle.pg_base.proofs.PointSetLaws.{AreBelow-empty, AreBelow-insert}
 use Rattle.test_criteria.proofs.numbered.sets_of.Goals as goal
-use Rattle.test_criteria.proofs.numbered.sets_of.Goals.{then-number-v-eq1, else-number-v-eq1, then-number-v-eq2, else-number-v-eq2}
+use Rattle.test_criteria.proofs.numbered.sets_of.Goals.{then-number-v-eq1, else-number-v-eq1}
+use Rattle.test_criteria.proofs.numbered.sets_of.Goals.{then-number-v-eq2, else-number-v-eq2}
 
 pub loop-v-init : goal.loop-v-init
 loop-v-init c = record {

@@ -1,6 +1,8 @@
 use Rattle.std.proofs.Common.{◌≡◌, sym, ltb, rules, List, ℕ, subst}
-use Rattle.pg_base.proofs.Common.{IsAllAdjacentAnswer, MatchBool-at_true, MatchBool-at_false, answers_always}
-use Rattle.pg_base.proofs.LineLemmas.{StandsTwice-from_neighbours, IsStrictlyIncreasing-from_adjacent, not_twice}
+use Rattle.pg_base.proofs.Common.{IsAllAdjacentAnswer, MatchBool-at_true, MatchBool-at_false}
+use Rattle.pg_base.proofs.Common.{answers_always}
+use Rattle.pg_base.proofs.LineLemmas.{StandsTwice-from_neighbours}
+use Rattle.pg_base.proofs.LineLemmas.{IsStrictlyIncreasing-from_adjacent, not_twice}
 use Rattle.pg_base.proofs.line.Line.new.Goals as goal
 
 pub invariant_of-result : goal.invariant_of-result

@@ -1,5 +1,7 @@
-use Rattle.std.proofs.Common.{◌<◌, ◌^◌, ℕ, ◌||◌, ◌∙◌, sym, ap, subst, arith, refl, inl, inr, get_or, length, bit_or, lit<, length-set, get_or-set_same, get_or-set_other}
-use Rattle.pg_base.proofs.Common.{or_lt, get_or_past, cases_eq, cases_lt, FinSet, contains, contains-union, nat_cmp_total, nat_cmp}
+use Rattle.std.proofs.Common.{◌<◌, ◌^◌, ℕ, ◌||◌, ◌∙◌, sym, ap, subst, arith, refl, inl, inr, get_or}
+use Rattle.std.proofs.Common.{length, bit_or, lit<, length-set, get_or-set_same, get_or-set_other}
+use Rattle.pg_base.proofs.Common.{or_lt, get_or_past, cases_eq, cases_lt, FinSet, contains}
+use Rattle.pg_base.proofs.Common.{contains-union, nat_cmp_total, nat_cmp}
 use Rattle.pg_base.specs.Words.{members_below}
 use Rattle.pg_base.specs.WordLemmas.{same_points}
 use Rattle.pg_base.proofs.RowLemmas.{contains-or_rows}

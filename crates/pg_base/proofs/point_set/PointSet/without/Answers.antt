@@ -1,5 +1,8 @@
-use Rattle.std.proofs.Common.{◌<◌, ◌^◌, ℕ, not, ◌&&◌, ◌∙◌, sym, ap, subst, arith, refl, inl, inr, get_or, length, w64, lit<, length-set, get_or-set_same, get_or-set_other}
-use Rattle.pg_base.proofs.Common.{bit_not, and_le_l, get_or_past, cases_eq, cases_lt, FinSet, contains, contains-difference, nat_cmp_total, nat_cmp}
+use Rattle.std.proofs.Common.{◌<◌, ◌^◌, ℕ, not, ◌&&◌, ◌∙◌, sym, ap, subst, arith, refl, inl, inr}
+use Rattle.std.proofs.Common.{get_or, length, w64, lit<, length-set, get_or-set_same}
+use Rattle.std.proofs.Common.{get_or-set_other}
+use Rattle.pg_base.proofs.Common.{bit_not, and_le_l, get_or_past, cases_eq, cases_lt, FinSet}
+use Rattle.pg_base.proofs.Common.{contains, contains-difference, nat_cmp_total, nat_cmp}
 use Rattle.pg_base.specs.Words.{members_below}
 use Rattle.pg_base.specs.WordLemmas.{same_points}
 use Rattle.pg_base.proofs.RowLemmas.{contains-cleared_rows, cleared}

@@ -1,5 +1,6 @@
 use Rattle.std.proofs.Common.{◌≡◌, ◌∙◌, ap}
-use Rattle.pg_board.proofs.Common.{list_any, X, Y, points_of, free_points, is_filled, has_filled, all_touched, is_full}
+use Rattle.pg_board.proofs.Common.{list_any, X, Y, points_of, free_points, is_filled, has_filled}
+use Rattle.pg_board.proofs.Common.{all_touched, is_full}
 use Rattle.pg_board.specs.Board.{live_lines}
 use Rattle.pg_board.specs.Shape.{shape_of}
 use Rattle.pg_board.specs.Fits.{position_of}

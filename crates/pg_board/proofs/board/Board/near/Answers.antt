@@ -1,6 +1,7 @@
 use Rattle.std.proofs.Common.{true, ltb, length, Some, arith, ap, ◌∙◌, sym, subst, inl, inr}
 use Rattle.std.specs.Prelude.{slice_get, nat_lt}
-use Rattle.pg_board.proofs.Common.{cases_eq, ltb-false, false≢true, find, other, first_of_all, lines_of}
+use Rattle.pg_board.proofs.Common.{cases_eq, ltb-false, false≢true, find, other, first_of_all}
+use Rattle.pg_board.proofs.Common.{lines_of}
 use Rattle.pg_board.specs.Board.{live_lines}
 use Rattle.pg_board.specs.Near.{WalksNear, place_of}
 use Rattle.pg_board.proofs.Walks.{walked, beyond, live-below}

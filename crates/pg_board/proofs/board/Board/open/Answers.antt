@@ -1,11 +1,13 @@
 use Rattle.std.proofs.Common.{◌≡◌, ◌+◌, ◌^◌, ◌≤◌, [], length, reverse, arith, ap, ◌∙◌}
-use Rattle.pg_board.proofs.Common.{Y, point_count, lines_of, greatest_length, full_weight-is, some_bias, bias-le, bias-few, Cells, with_set}
+use Rattle.pg_board.proofs.Common.{Y, point_count, lines_of, greatest_length, full_weight-is}
+use Rattle.pg_board.proofs.Common.{some_bias, bias-le, bias-few, Cells, with_set}
 use Rattle.pg_board.specs.Shape.{Shape, turn_cell}
 use Rattle.pg_board.specs.Opening.{turn_code}
 use Rattle.pg_board.specs.Fits.{Rules, Fits, position_of}
 use Rattle.pg_board.proofs.Fitting.{some-cells}
 use Rattle.pg_board.proofs.OpeningSteps.{turned-fits}
-use Rattle.pg_board.proofs.Opened.{opened-position, code-low, fit-none, settled-fits, settled-position, settled-none, earlier-none, free-few}
+use Rattle.pg_board.proofs.Opened.{opened-position, code-low, fit-none, settled-fits}
+use Rattle.pg_board.proofs.Opened.{settled-position, settled-none, earlier-none, free-few}
 use Rattle.pg_board.proofs.Blank.{blank-opens}
 use Rattle.pg_board.proofs.board.Board.open.Goals as goal
 

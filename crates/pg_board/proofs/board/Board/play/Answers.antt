@@ -1,5 +1,7 @@
-use Rattle.std.proofs.Common.{◌≡◌, ℕ, ◌+◌, ◌<◌, ◌≤◌, [], ◌∷◌, ◌++◌, true, length, reverse, arith, ap, ◌∙◌, sym, subst}
-use Rattle.pg_board.proofs.Common.{reverse-append, length-reverse, vec_capacity, is_free, after, present, Cells, back_to}
+use Rattle.std.proofs.Common.{◌≡◌, ℕ, ◌+◌, ◌<◌, ◌≤◌, [], ◌∷◌, ◌++◌, true, length, reverse, arith}
+use Rattle.std.proofs.Common.{ap, ◌∙◌, sym, subst}
+use Rattle.pg_board.proofs.Common.{reverse-append, length-reverse, vec_capacity, is_free, after}
+use Rattle.pg_board.proofs.Common.{present, Cells, back_to}
 use Rattle.pg_board.specs.Shape.{Shape, shape_of, degree_in}
 use Rattle.pg_board.proofs.Judging.{degree-of}
 use Rattle.pg_board.specs.declared.plays.Played.{Played}

@@ -1,5 +1,7 @@
-use Rattle.std.proofs.Common.{◌≡◌, ℕ, ◌+◌, ◌≤◌, List, [], ◌∷◌, ◌++◌, length, reverse, arith, rules, ap, ◌∙◌, sym, subst}
-use Rattle.pg_board.proofs.Common.{reverse-append, length-reverse, vec_len, vec_capacity, present, Cells}
+use Rattle.std.proofs.Common.{◌≡◌, ℕ, ◌+◌, ◌≤◌, List, [], ◌∷◌, ◌++◌, length, reverse, arith, rules}
+use Rattle.std.proofs.Common.{ap, ◌∙◌, sym, subst}
+use Rattle.pg_board.proofs.Common.{reverse-append, length-reverse, vec_len, vec_capacity, present}
+use Rattle.pg_board.proofs.Common.{Cells}
 use Rattle.pg_board.specs.Fits.{Rules, AreFit, stand_of, earlier_of}
 use Rattle.pg_board.proofs.Fitting.{fit-first, fit-played, fit-before}
 use Rattle.pg_board.proofs.Earlier.{earlier-more, length-earlier}

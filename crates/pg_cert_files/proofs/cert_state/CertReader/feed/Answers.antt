@@ -3,7 +3,8 @@ use Rattle.pg_text.specs.Text.{Bytes}
 use Rattle.pg_cert_files.specs.CertFile.{listed}
 use Rattle.pg_cert_files.specs.Pieces.{parts_told, IsFed}
 use Rattle.pg_cert_files.specs.declared.limits.TheConstants.{MAX_CERT_BYTES}
-use Rattle.pg_cert_files.proofs.Within.{fed_past, parts_past, parts_over, front_taken, last_taken, none_given}
+use Rattle.pg_cert_files.proofs.Within.{fed_past, parts_past, parts_over, front_taken, last_taken}
+use Rattle.pg_cert_files.proofs.Within.{none_given}
 use Rattle.pg_cert_files.proofs.cert_state.CertReader.feed.Goals as goal
 
 pub returns-then-self-gt-MAX_CERT_BYTES-clause-parts :

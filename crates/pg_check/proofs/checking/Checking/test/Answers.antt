@@ -1,4 +1,5 @@
-use Rattle.std.proofs.Common.{◌≡◌, ◌∙◌, ◌+◌, ◌-◌, ◌*◌, ◌∷◌, ◌++◌, [], Some, length, sym, subst, ap, refl, arith}
+use Rattle.std.proofs.Common.{◌≡◌, ◌∙◌, ◌+◌, ◌-◌, ◌*◌, ◌∷◌, ◌++◌, [], Some, length, sym, subst, ap}
+use Rattle.std.proofs.Common.{refl, arith}
 use Rattle.pg_check.proofs.Common.{AreBelow, Position}
 use Rattle.pg_cert.specs.declared.node_fault.NodeFault.TheVariants as faults
 use Rattle.pg_check.specs.Marks.{kept}
@@ -9,7 +10,8 @@ use Rattle.pg_check.specs.Tester.{IsReadyFor}
 use Rattle.pg_cert.specs.declared.part.Part.TheVariants as parts
 use Rattle.pg_check.specs.declared.present.Present.{Present}
 use Rattle.pg_check.specs.declared.tester.Tester.{Tester}
-use Rattle.pg_check.proofs.CheckingSteps.{stands-next, at-next, in-hand, some-hand, due-next, hand-more, hand-faulty, longer}
+use Rattle.pg_check.proofs.CheckingSteps.{stands-next, at-next, in-hand, some-hand, due-next}
+use Rattle.pg_check.proofs.CheckingSteps.{hand-more, hand-faulty, longer}
 use Rattle.pg_check.proofs.ForcedNodes.{some-left}
 use Rattle.pg_check.proofs.checking.Checking.test.Goals as goal
 

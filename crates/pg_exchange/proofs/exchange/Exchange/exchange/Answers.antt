@@ -1,7 +1,8 @@
 use Rattle.std.proofs.Common.{◌≡◌, ◌+◌, ◌-◌, ℕ, true, false, arith, ap, ◌∙◌, sym, subst, suc, refl}
 use Rattle.pg_exchange.proofs.Common.{IsBase, circuit, contains}
 use Rattle.pg_exchange.specs.Chain.{SomeShift, up_of, second_of}
-use Rattle.pg_exchange.proofs.TreeLemmas.{SomeShift-begin, link_first, link_second, SomeShift-first, SomeShift-second, IsNearest-shift, shift_ends}
+use Rattle.pg_exchange.proofs.TreeLemmas.{SomeShift-begin, link_first, link_second, SomeShift-first}
+use Rattle.pg_exchange.proofs.TreeLemmas.{SomeShift-second, IsNearest-shift, shift_ends}
 use Rattle.pg_exchange.proofs.exchange.Exchange.exchange.Goals as goal
 use Rattle.pg_exchange.proofs.exchange.Exchange.exchange.Goals.{then-parent, else-parent}
 

@@ -1,11 +1,16 @@
-use Rattle.pg_exchange.proofs.Common.{both_ways, false_from_ne_true, either, outside, minus, IsWithin, contains, both_parts, both_from, outside_parts, outside_from, either_left}
+use Rattle.pg_exchange.proofs.Common.{both_ways, false_from_ne_true, either, outside, minus}
+use Rattle.pg_exchange.proofs.Common.{IsWithin, contains, both_parts, both_from, outside_parts}
+use Rattle.pg_exchange.proofs.Common.{outside_from, either_left}
 use Rattle.pg_exchange.proofs.Tests.{emptied, none_left}
 use Rattle.std.proofs.Common.{◌≡◌, ℕ, Bool, true, false, ap, ◌∙◌, sym, refl, subst, arith, inl, inr}
-use Rattle.pg_exchange.specs.Chain.{links, IsNoted, IsNearest, IsSearch, IsMoved, SomeTree, up_of, second_of}
-use Rattle.pg_exchange.proofs.SearchSteps.{either-none, either-moved, IsSearch-begin, IsSearch-next, IsSearch-fewer, Leads-seen}
+use Rattle.pg_exchange.specs.Chain.{links, IsNoted, IsNearest, IsSearch, IsMoved, SomeTree, up_of}
+use Rattle.pg_exchange.specs.Chain.{second_of}
+use Rattle.pg_exchange.proofs.SearchSteps.{either-none, either-moved, IsSearch-begin, IsSearch-next}
+use Rattle.pg_exchange.proofs.SearchSteps.{IsSearch-fewer, Leads-seen}
 use Rattle.pg_exchange.proofs.TreeLemmas.{IsTree-begin}
 use Rattle.pg_exchange.proofs.SearchLemmas.{IsTree-next, done_cases, noted_new, noted_seen}
-use Rattle.pg_exchange.proofs.LevelLemmas.{IsLevelled-begin, IsLevelled-follow, level-near, IsShortest-level}
+use Rattle.pg_exchange.proofs.LevelLemmas.{IsLevelled-begin, IsLevelled-follow, level-near}
+use Rattle.pg_exchange.proofs.LevelLemmas.{IsShortest-level}
 use Rattle.pg_exchange.proofs.exchange.Exchange.shift.Goals as goal
 
 pub loop-f-init : goal.loop-f-init

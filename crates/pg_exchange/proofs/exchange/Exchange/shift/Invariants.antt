@@ -1,6 +1,7 @@
 use Rattle.std.proofs.Common.{◌≡◌, ℕ, length, true, false}
 use Rattle.pg_exchange.proofs.Common.{either, outside, count, contains}
-use Rattle.pg_exchange.specs.Chain.{KeepsMatroid, KeepsBases, IsSearch, IsTree, IsLevelled, up_of, second_of}
+use Rattle.pg_exchange.specs.Chain.{KeepsMatroid, KeepsBases, IsSearch, IsTree, IsLevelled, up_of}
+use Rattle.pg_exchange.specs.Chain.{second_of}
 use Rattle.pg_exchange.proofs.exchange.Exchange.shift.Given as goal
 
 abbrev pub invariant-loop-f : goal.invariant-loop-f

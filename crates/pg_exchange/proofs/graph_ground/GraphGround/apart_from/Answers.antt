@@ -1,5 +1,8 @@
-use Rattle.std.proofs.Common.{◌≡◌, ◌<◌, ◌≤◌, suc, ℕ, Bool, true, false, arith, ap, ◌∙◌, sym, subst, inl, inr, List}
-use Rattle.pg_exchange.proofs.Common.{both_ways, contains, below, either, outside, IsWithin, either_cases, outside_parts, below_parts, Graph, IsGraph, spans_in, edge_count, AreEdges, AreLabels, IsBase}
+use Rattle.std.proofs.Common.{◌≡◌, ◌<◌, ◌≤◌, suc, ℕ, Bool, true, false, arith, ap, ◌∙◌, sym, subst}
+use Rattle.std.proofs.Common.{inl, inr, List}
+use Rattle.pg_exchange.proofs.Common.{both_ways, contains, below, either, outside, IsWithin}
+use Rattle.pg_exchange.proofs.Common.{either_cases, outside_parts, below_parts, Graph, IsGraph}
+use Rattle.pg_exchange.proofs.Common.{spans_in, edge_count, AreEdges, AreLabels, IsBase}
 use Rattle.pg_exchange.specs.Forest.{graph_matroid, IsGrown}
 use Rattle.pg_exchange.specs.ForestLaws.{IsSpan-graph_matroid}
 use Rattle.pg_exchange.proofs.Tests.{emptied, of_outside}

@@ -4,7 +4,8 @@ use Rattle.pg_family_files.proofs.Bits.{and_first}
 use Rattle.pg_files.proofs.Finds.{find_more}
 use Rattle.pg_family_files.specs.Family.{key_name, has_key}
 use Rattle.pg_family_files.proofs.family.Key.read.Goals as goal
-use Rattle.pg_family_files.proofs.family.Key.read.Goals.{else-has-via-then-has+else-eq, else-has-via-else-has}
+use Rattle.pg_family_files.proofs.family.Key.read.Goals.{else-has-via-then-has+else-eq}
+use Rattle.pg_family_files.proofs.family.Key.read.Goals.{else-has-via-else-has}
 
 pub loop-key-preserved : goal.loop-key-preserved
 loop-key-preserved c =

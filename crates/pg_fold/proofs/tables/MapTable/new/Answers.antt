@@ -1,5 +1,6 @@
 use Rattle.std.proofs.Common.{◌<◌, ◌++◌, ◌∷◌, [], ℕ, List, sym, ap, ap₂, ◌∙◌, subst, arith}
-use Rattle.pg_fold.proofs.Common.{All-push, map-range_with_len_more, All, image_of, reverse_of, GridMap}
+use Rattle.pg_fold.proofs.Common.{All-push, map-range_with_len_more, All, image_of, reverse_of}
+use Rattle.pg_fold.proofs.Common.{GridMap}
 use Rattle.pg_fold.proofs.tables.MapTable.new.Goals as goal
 
 pub loop-v-preserved : goal.loop-v-preserved

@@ -1,5 +1,8 @@
-use Rattle.std.proofs.Common.{◌≡◌, ℕ, ◌+◌, ◌<◌, Bool, true, false, List, [], ◌∷◌, ◌++◌, length, ap, ◌∙◌, subst, sym, arith}
-use Rattle.pg_gf2.proofs.Common.{both_ways, length-append, contains, either, both, below, outside, IsBelow, emptied, of_outside, IsBase-apart, spanned-apart, IsFree, IsGrown}
+use Rattle.std.proofs.Common.{◌≡◌, ℕ, ◌+◌, ◌<◌, Bool, true, false, List, [], ◌∷◌, ◌++◌, length, ap}
+use Rattle.std.proofs.Common.{◌∙◌, subst, sym, arith}
+use Rattle.pg_gf2.proofs.Common.{both_ways, length-append, contains, either, both, below, outside}
+use Rattle.pg_gf2.proofs.Common.{IsBelow, emptied, of_outside, IsBase-apart, spanned-apart, IsFree}
+use Rattle.pg_gf2.proofs.Common.{IsGrown}
 use Rattle.pg_exchange.proofs.SearchSteps.{outside-outside}
 use Rattle.pg_gf2.specs.declared.row.Row.{Row}
 use Rattle.pg_gf2.specs.Vectors.{vector_at, spans_over}

@@ -1,5 +1,7 @@
-use Rattle.std.proofs.Common.{◌≡◌, ◌<◌, ◌≤◌, ℕ, ◌||◌, sym, ap, ◌∙◌, inl, inr, arith, eqb, eq-eqb, eqb-true}
-use Rattle.pg_maps.proofs.Common.{cases_eq, cases_lt, both_ways, or_cases, or_left, or_right, FinSet, contains, contains-empty, nat_cmp, in_insert}
+use Rattle.std.proofs.Common.{◌≡◌, ◌<◌, ◌≤◌, ℕ, ◌||◌, sym, ap, ◌∙◌, inl, inr, arith, eqb, eq-eqb}
+use Rattle.std.proofs.Common.{eqb-true}
+use Rattle.pg_maps.proofs.Common.{cases_eq, cases_lt, both_ways, or_cases, or_left, or_right}
+use Rattle.pg_maps.proofs.Common.{FinSet, contains, contains-empty, nat_cmp, in_insert}
 use Rattle.pg_maps.specs.GridMaps.{image_of}
 use Rattle.pg_maps.proofs.SetImages.{image_set-from}
 use Rattle.pg_maps.proofs.grid_map.GridMap.image_set.Goals as goal

@@ -3,7 +3,8 @@ use Rattle.pg_match.proofs.Common.{length-map, MatchOption-at_some, MatchOption-
 use Rattle.pg_match.specs.Cache.{kept_of}
 use Rattle.pg_match.specs.Private.{told}
 use Rattle.pg_match.proofs.Below.{points-below}
-use Rattle.pg_match.proofs.CacheLaws.{hit-remembers_to, hit-fits_to, hit-answer_to, hit-length_to, miss-remembers_to, miss-fits_to, miss-length}
+use Rattle.pg_match.proofs.CacheLaws.{hit-remembers_to, hit-fits_to, hit-answer_to, hit-length_to}
+use Rattle.pg_match.proofs.CacheLaws.{miss-remembers_to, miss-fits_to, miss-length}
 use Rattle.pg_match.proofs.cache.PairCache.ask.Goals as goal
 
 pub invariant_of-self : goal.invariant_of-self

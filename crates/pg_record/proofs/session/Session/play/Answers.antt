@@ -1,4 +1,5 @@
-use Rattle.std.proofs.Common.{◌≡◌, ◌∙◌, ◌++◌, [], ◌∷◌, ℕ, List, length, true, is_ok, ap, sym, subst, arith, rules}
+use Rattle.std.proofs.Common.{◌≡◌, ◌∙◌, ◌++◌, [], ◌∷◌, ℕ, List, length, true, is_ok, ap, sym, subst}
+use Rattle.std.proofs.Common.{arith, rules}
 use Rattle.pg_record.proofs.Common.{vec_len, start, judged_move, IsLegalPlay}
 use Rattle.pg_record.specs.Replay.{position_after}
 use Rattle.pg_record.specs.Session.{IsTableAfter}

@@ -1,5 +1,6 @@
 use Rattle.std.proofs.Common.{◌∙◌, sym, subst}
-use Rattle.pg_record.proofs.Common.{Position, start, IsPosition, judged_move, IsPosition-start, IsPosition-played}
+use Rattle.pg_record.proofs.Common.{Position, start, IsPosition, judged_move, IsPosition-start}
+use Rattle.pg_record.proofs.Common.{IsPosition-played}
 use Rattle.pg_record.specs.declared.table.Table.{Table}
 use Rattle.pg_record.specs.Session.{refusal_of, IsBoardAfter, IsTableAfter}
 use Rattle.pg_record.proofs.Boards.{board-position, board-played}

@@ -1,4 +1,5 @@
-use Rattle.std.proofs.Common.{◌≡◌, ◌∙◌, ◌<◌, false, List, length, get_or, take_all, refl, sym, ap, subst, arith, rules}
+use Rattle.std.proofs.Common.{◌≡◌, ◌∙◌, ◌<◌, false, List, length, get_or, take_all, refl, sym, ap}
+use Rattle.std.proofs.Common.{subst, arith, rules}
 use Rattle.pg_sessions.proofs.Common.{All, false≢true, All-more, Claim}
 use Rattle.pg_sessions.specs.Known.{HasNode}
 use Rattle.pg_sessions.proofs.known.Known.holds_at.Goals as goal

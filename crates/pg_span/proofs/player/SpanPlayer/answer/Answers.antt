@@ -4,7 +4,8 @@ use Rattle.pg_span.specs.Plan.{plan_of}
 use Rattle.pg_span.specs.Player.{SpanPlay, SpanWaits, TakesSpanReply}
 use Rattle.pg_span.specs.Playing.{IsDue}
 use Rattle.pg_span.specs.Game.{span_rules_of}
-use Rattle.pg_span.proofs.Keeping.{judged-legal, over-known, theirs, on-over, due-reply, range-next, playing-next}
+use Rattle.pg_span.proofs.Keeping.{judged-legal, over-known, theirs, on-over, due-reply, range-next}
+use Rattle.pg_span.proofs.Keeping.{playing-next}
 use Rattle.pg_span.proofs.player.SpanPlayer.answer.Goals as goal
 
 pub ending-ending-requires-clause-range : goal.ending-ending-requires-clause-range

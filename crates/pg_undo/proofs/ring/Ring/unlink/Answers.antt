@@ -1,4 +1,5 @@
-use Rattle.std.proofs.Common.{◌≡◌, ℕ, ◌+◌, ◌<◌, ◌≤◌, true, List, ◌∷◌, ◌++◌, [], reverse, length, get_or, set, arith, rules, sym, ap, ◌∙◌, subst, refl}
+use Rattle.std.proofs.Common.{◌≡◌, ℕ, ◌+◌, ◌<◌, ◌≤◌, true, List, ◌∷◌, ◌++◌, [], reverse, length}
+use Rattle.std.proofs.Common.{get_or, set, arith, rules, sym, ap, ◌∙◌, subst, refl}
 use Rattle.std.proofs.lemmas.List.{reverse-append, length-reverse}
 use Rattle.std.specs.Vec.{vec_len, vec_capacity}
 use Rattle.pg_undo.specs.Ring.{present, without}

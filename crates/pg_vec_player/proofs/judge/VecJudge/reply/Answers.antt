@@ -1,5 +1,7 @@
 use Rattle.std.proofs.Common.{◌≡◌, ◌∙◌, ℕ, length, sym, ap, subst}
-use Rattle.pg_vec_player.proofs.Common.{contains, remove, either, Side, left_without, lowest_free, reply_vector, lowest_unspanned, lowest_needed, with_target, vector_spans}
+use Rattle.pg_vec_player.proofs.Common.{contains, remove, either, Side, left_without, lowest_free}
+use Rattle.pg_vec_player.proofs.Common.{reply_vector, lowest_unspanned, lowest_needed, with_target}
+use Rattle.pg_vec_player.proofs.Common.{vector_spans}
 use Rattle.pg_vec_player.proofs.JudgeLemmas.{reply-some, reply-none}
 use Rattle.pg_vec_player.proofs.MoveLemmas.{found-x, found-y}
 use Rattle.pg_vec_player.proofs.judge.VecJudge.reply.Goals.{in-X, in-Y}

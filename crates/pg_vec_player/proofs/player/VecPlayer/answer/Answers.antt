@@ -2,7 +2,8 @@ use Rattle.std.proofs.Common.{◌∙◌, true, false, Some, refl, sym, ap, subst
 use Rattle.pg_vec_player.proofs.Common.{moved, vector_rules}
 use Rattle.pg_vec_player.specs.Player.{VecPlay, VecWaits, TakesVecReply}
 use Rattle.pg_vec_player.specs.Player.{IsVecDue}
-use Rattle.pg_vec_player.proofs.Keeping.{judged-legal, over-known, theirs, on-over, due-reply, playing-next}
+use Rattle.pg_vec_player.proofs.Keeping.{judged-legal, over-known, theirs, on-over, due-reply}
+use Rattle.pg_vec_player.proofs.Keeping.{playing-next}
 use Rattle.pg_vec_player.proofs.player.VecPlayer.answer.Goals as goal
 
 pub invariant_of-self : goal.invariant_of-self
