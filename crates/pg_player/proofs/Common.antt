@@ -1,30 +1,5 @@
 -- What the proofs of this crate name of std and of the crates below.
-pub use Rattle.pg_player.specs.Prelude.{All, Answered, AreBelow, AreCuts, AreFreeWithE, AreTrees}
-pub use Rattle.pg_player.specs.Prelude.{AvoiderEnforcer, AvoiderHolds, Body, Cert, Claim, Coded-set}
-pub use Rattle.pg_player.specs.Prelude.{Cuts, CutsHold, CutsHoldOn, EndsRight, Field, FinSet}
-pub use Rattle.pg_player.specs.Prelude.{FollowMoves, FollowsMove, Forces, Game, Goal, HasCuts}
-pub use Rattle.pg_player.specs.Prelude.{HasJoiner, HasPairs, HasPotential, HasThreat, HasTrees}
-pub use Rattle.pg_player.specs.Prelude.{HasTurn, HasWeaker, HeldUntil, HoldsPair, IsAttack}
-pub use Rattle.pg_player.specs.Prelude.{IsAttacking, IsClaim, IsCutsAnswer, IsFreeEdge, IsInGame}
-pub use Rattle.pg_player.specs.Prelude.{IsLegalPlay, IsMadeForGame, IsNoWorse, IsNoWorseThanNode}
-pub use Rattle.pg_player.specs.Prelude.{IsNodeOf, IsOwed, IsPosition, IsSound, IsThreatLine}
-pub use Rattle.pg_player.specs.Prelude.{IsTreesAnswer, IsValid, IsValidClaim, IsWithinLimits}
-pub use Rattle.pg_player.specs.Prelude.{KeepsRest, Kind, LeadsToLine, Lines, MakerBreaker}
-pub use Rattle.pg_player.specs.Prelude.{MakerMaker, MayClaim, Move, NamesEarlier, Node, Over, Pair}
-pub use Rattle.pg_player.specs.Prelude.{Pairs, PairsHold, Passes, Position, Potential}
-pub use Rattle.pg_player.specs.Prelude.{PotentialFits, PotentialHolds, Reply, RestHolds, Room}
-pub use Rattle.pg_player.specs.Prelude.{Score, Side, Standing, Switching, TakesFree, Threat, Trees}
-pub use Rattle.pg_player.specs.Prelude.{TreesHold, TreesHoldOn, Weaker, Win, X, Y, after, arrives}
-pub use Rattle.pg_player.specs.Prelude.{avoider_answer, bias_of, coded_bool, coded_list, coded_ℕ}
-pub use Rattle.pg_player.specs.Prelude.{contains, cuts_point, free_or_lowest, free_points}
-pub use Rattle.pg_player.specs.Prelude.{is_allowed, is_free, is_full, is_over, is_same_side}
-pub use Rattle.pg_player.specs.Prelude.{judged_move, list_any, may_attack, nat_cmp, option_or}
-pub use Rattle.pg_player.specs.Prelude.{other, outcome, pairs_answer, pairs_fit, played}
-pub use Rattle.pg_player.specs.Prelude.{point_count, position_of, potential_answer, potential_point}
-pub use Rattle.pg_player.specs.Prelude.{reaches, replied_by, rest, settles_at, settles_by}
-pub use Rattle.pg_player.specs.Prelude.{shows_cuts, shows_defence, shows_trees, start, stays}
-pub use Rattle.pg_player.specs.Prelude.{stays_with_cuts, stays_with_trees, trees_point}
-pub use Rattle.pg_player.specs.Prelude.{with_e_named, with_set, with_turn}
+pub use Rattle.pg_player.specs.Prelude.{All, Answered, AreBelow, AreCuts, AreFreeWithE, AreTrees, AvoiderEnforcer, AvoiderHolds, Body, Cert, Claim, Coded-set, Cuts, CutsHold, CutsHoldOn, EndsRight, Field, FinSet, FollowMoves, FollowsMove, Forces, Game, Goal, HasCuts, HasJoiner, HasPairs, HasPotential, HasThreat, HasTrees, HasTurn, HasWeaker, HeldBefore, HeldUntil, HoldsPair, IsAttack, IsAttacking, IsClaim, IsCutsAnswer, IsFreeEdge, IsInGame, IsLegalPlay, IsMadeForGame, IsNoWorse, IsNoWorseThanNode, IsNodeOf, IsOwed, IsPosition, IsSound, IsSwitchingTurn, IsThreatLine, IsTreesAnswer, IsValid, IsValidClaim, IsWithinLimits, Kind, LeadsToLine, LeavesHeld, Lines, MakerBreaker, MakerMaker, MayClaim, Move, NamesEarlier, Node, Over, Pair, Pairs, PairsHold, Passes, Position, Potential, PotentialFits, PotentialHolds, Reply, RestHolds, Room, Score, Side, Standing, Switching, TakesFree, Threat, Trees, TreesHold, TreesHoldOn, Weaker, Win, X, Y, after, arrives, avoider_answer, bias_of, coded_bool, coded_list, coded_ℕ, contains, cuts_point, free_or_lowest, free_points, is_allowed, is_free, is_full, is_over, is_same_side, judged_move, list_any, may_attack, nat_cmp, option_or, other, outcome, pairs_answer, pairs_fit, played, point_count, position_of, potential_answer, potential_point, reaches, replied_by, rest, settles_at, settles_by, shows_cuts, shows_defence, shows_trees, start, stays, stays_with_cuts, stays_with_trees, trees_point, with_e_named, with_set, with_turn}
 unfoldable pub use Rattle.pg_player.specs.Prelude.{own_move, replied, settled_within}
 pub use Rattle.pg_avoider.proofs.AvoiderLaws.{Forces-avoider, kept-y}
 pub use Rattle.pg_check.proofs.ForcedNodes.{Forces-node, breaker_at, node_limits, pairs_at}

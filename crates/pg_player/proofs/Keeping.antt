@@ -1,24 +1,6 @@
 -- What an own move keeps, body by body.
-use Rattle.std.proofs.Common.{◌≡◌, ◌≢◌, ◌∙◌, ℕ, ◌<◌, Bool, true, false, ◌&&◌, ◌==◌, ◌+◌, suc, List}
-use Rattle.std.proofs.Common.{[], ◌∷◌, drop, get_or, length, arith, Option, Some, None, refl, sym}
-use Rattle.std.proofs.Common.{ap, subst, subst₂, inl, inr, ◌⊎◌, eqb-true}
-use Rattle.pg_player.proofs.Common.{cases_Bool, cases_lt, and_parts, false≢true, FinSet, nat_cmp}
-use Rattle.pg_player.proofs.Common.{other, Goal, Win, Kind, MakerBreaker, MakerMaker}
-use Rattle.pg_player.proofs.Common.{AvoiderEnforcer, Switching, Pair, Side, X, Y, Field, Lines}
-use Rattle.pg_player.proofs.Common.{Game, Position, is_free, point_count, is_over, outcome, after}
-use Rattle.pg_player.proofs.Common.{IsPosition, reaches, Forces, pairs_answer, PotentialHolds}
-use Rattle.pg_player.proofs.Common.{potential_answer, AvoiderHolds, avoider_answer, may_attack}
-use Rattle.pg_player.proofs.Common.{LeadsToLine, IsAttack, IsAttacking, unfilled-going}
-use Rattle.pg_player.proofs.Common.{over-filling, Forces-attacked, Answered, TreesHold, CutsHold}
-use Rattle.pg_player.proofs.Common.{turn-after_x, IsPosition-after, Forces-over, Forces-all}
-use Rattle.pg_player.proofs.Common.{Forces-any, rest, RestHolds, MayClaim, KeepsRest}
-use Rattle.pg_player.proofs.Common.{Forces-potential_breaker, Forces-potential_draw, Forces-avoider}
-use Rattle.pg_player.proofs.Common.{HeldUntil, IsTreesAnswer, IsCutsAnswer, Claim, Body, Move}
-use Rattle.pg_player.proofs.Common.{Pairs, Potential, Trees, Cuts, Threat, Standing, own_move}
-use Rattle.pg_player.proofs.Common.{arrives, stays, potential_point, trees_point, cuts_point}
-use Rattle.pg_player.proofs.Common.{stays_with_trees, stays_with_cuts, is_allowed, shows_defence}
-use Rattle.pg_player.proofs.Common.{shows_trees, shows_cuts, pairs_fit, PotentialFits, with_e_named}
-use Rattle.pg_player.proofs.Common.{pairs_at}
+use Rattle.std.proofs.Common.{◌≡◌, ◌≢◌, ◌∙◌, ℕ, ◌<◌, Bool, true, false, ◌&&◌, ◌==◌, ◌+◌, suc, List, [], ◌∷◌, drop, get_or, length, arith, Option, Some, None, refl, sym, ap, subst, subst₂, inl, inr, ◌⊎◌, eqb-true}
+use Rattle.pg_player.proofs.Common.{cases_Bool, cases_lt, and_parts, false≢true, FinSet, nat_cmp, other, Goal, Win, Kind, MakerBreaker, MakerMaker, AvoiderEnforcer, Switching, Pair, Side, X, Y, Field, Lines, Game, Position, is_free, point_count, is_over, outcome, after, IsPosition, reaches, Forces, pairs_answer, PotentialHolds, potential_answer, AvoiderHolds, avoider_answer, may_attack, LeadsToLine, IsAttack, IsAttacking, unfilled-going, over-filling, Forces-attacked, Answered, TreesHold, CutsHold, turn-after_x, IsPosition-after, Forces-over, Forces-all, Forces-any, rest, RestHolds, MayClaim, HeldBefore, Forces-potential_breaker, Forces-potential_draw, Forces-avoider, IsSwitchingTurn, HeldUntil, LeavesHeld, IsTreesAnswer, IsCutsAnswer, Claim, Body, Move, Pairs, Potential, Trees, Cuts, Threat, Standing, own_move, arrives, stays, potential_point, trees_point, cuts_point, stays_with_trees, stays_with_cuts, is_allowed, shows_defence, shows_trees, shows_cuts, pairs_fit, PotentialFits, with_e_named, pairs_at}
 use Rattle.std.proofs.lemmas.List.{drop_all}
 use Rattle.std.proofs.Math.Seq.{drop-cons}
 use Rattle.pg_base.specs.declared.goal.Goal.TheVariants.{Draw as AtLeastDraw}
@@ -411,6 +393,27 @@ cuts_kind AvoiderEnforcer side ok = absurd (false≢true ok)
 cuts_kind Switching X ok = absurd (false≢true ok)
 cuts_kind Switching Y ok = (refl, refl)
 
+-- the side of trees, or of cuts, is to move
+pub trees-turn : (g : Game) (c : Claim) (p : Position) (with_e : Bool)
+    (first second : FinSet nat_cmp) (last : Option ℕ)
+    → InPlay g c (record { body = Trees with_e first second; last = last; imagined = p })
+    → is_over g p ≡ false
+    → p.turn ≡ c.side
+    → IsSwitchingTurn g p X
+trees-turn g c p with_e first second last h going mine =
+    let is = trees_kind g.kind c.side h.stands.allowed in
+    record { switching = is.0; position = h.position; going = going; turn = mine ∙ is.1 }
+
+pub cuts-turn : (g : Game) (c : Claim) (p : Position) (with_e : Bool)
+    (first second : FinSet nat_cmp) (last : Option ℕ)
+    → InPlay g c (record { body = Cuts with_e first second; last = last; imagined = p })
+    → is_over g p ≡ false
+    → p.turn ≡ c.side
+    → IsSwitchingTurn g p Y
+cuts-turn g c p with_e first second last h going mine =
+    let is = cuts_kind g.kind c.side h.stands.allowed in
+    record { switching = is.0; position = h.position; going = going; turn = mine ∙ is.1 }
+
 -- an own move by a plan, after which the other side is to move
 planned : (g : Game) (c : Claim) (p : Position) (body next : Body) (last : Option ℕ) (v : ℕ)
     (side : Side)
@@ -469,16 +472,14 @@ pub keeps-trees : (g : Game) (c : Claim) (p : Position) (first second : FinSet n
     → is_over g p ≡ false
     → p.turn ≡ c.side
     → IsTreesAnswer g.field p first second last (record { edge = v; first = f; second = s })
-    → v < point_count g
-    → is_free p v ≡ true
-    → TreesHold g (after g p v) f s
+    → LeavesHeld g p (λ q. TreesHold g q f s) v f
     → KeepsUp g c (record {
       body = Trees false first second;
       last = last;
       imagined = p;
     }) v (record { body = Trees false f s; last = last; imagined = after g p v })
 unfolding own_move
-keeps-trees g c p first second last v f s h going mine rule within free holds =
+keeps-trees g c p first second last v f s h going mine rule leaves =
     let position = h.position in
     let is = trees_kind g.kind c.side h.stands.allowed in
     planned g c p (Trees false first second) (Trees false f s) last v X is.0 is.1 h mine
@@ -486,8 +487,9 @@ keeps-trees g c p first second last v f s h going mine rule within free holds =
       edge = v;
       first = f;
       second = s;
-    }) rule) within free
-    (Forces-trees g (after g p v) f s (IsPosition-after g p v position within free) holds) holds
+    }) rule) leaves.within leaves.free
+    (Forces-trees g (after g p v) f s (IsPosition-after g p v position leaves.within leaves.free)
+    leaves.holds) leaves.holds
 
 pub keeps-cuts : (g : Game) (c : Claim) (p : Position) (first second : FinSet nat_cmp)
     (last : Option ℕ) (v : ℕ) (f s : FinSet nat_cmp)
@@ -495,16 +497,14 @@ pub keeps-cuts : (g : Game) (c : Claim) (p : Position) (first second : FinSet na
     → is_over g p ≡ false
     → p.turn ≡ c.side
     → IsCutsAnswer g.field p first second last (record { edge = v; first = f; second = s })
-    → v < point_count g
-    → is_free p v ≡ true
-    → CutsHold g (after g p v) f s
+    → LeavesHeld g p (λ q. CutsHold g q f s) v f
     → KeepsUp g c (record { body = Cuts false first second; last = last; imagined = p }) v (record {
       body = Cuts false f s;
       last = last;
       imagined = after g p v;
     })
 unfolding own_move
-keeps-cuts g c p first second last v f s h going mine rule within free holds =
+keeps-cuts g c p first second last v f s h going mine rule leaves =
     let position = h.position in
     let is = cuts_kind g.kind c.side h.stands.allowed in
     planned g c p (Cuts false first second) (Cuts false f s) last v Y is.0 is.1 h mine
@@ -512,8 +512,9 @@ keeps-cuts g c p first second last v f s h going mine rule within free holds =
       edge = v;
       first = f;
       second = s;
-    }) rule) within free
-    (Forces-cuts g (after g p v) f s (IsPosition-after g p v position within free) holds) holds
+    }) rule) leaves.within leaves.free
+    (Forces-cuts g (after g p v) f s (IsPosition-after g p v position leaves.within leaves.free)
+    leaves.holds) leaves.holds
 
 -- ---- a plan with e put into its first set stands for the node's body
 

@@ -1,6 +1,6 @@
 //! The own moves of a player, in the position p that it imagines.
 ghost use Rattle.std.specs.Prelude.{◌≡◌, ◌≢◌, ◌<◌, ℕ, false, Option, drop, slice_get};
-ghost use Rattle.pg_player.specs.Prelude.{Switching, MAX_MEMBERS, X, Y, Claim, Potential, Trees, Cuts, Threat, is_over, after, IsPosition, TreesHold, CutsHold, HasJoiner, HeldUntil};
+ghost use Rattle.pg_player.specs.Prelude.{Switching, MAX_MEMBERS, X, Y, Claim, Potential, Trees, Cuts, Threat, is_over, after, IsPosition, TreesHold, CutsHold, HasJoiner, IsSwitchingTurn, HeldUntil};
 ghost use Rattle.pg_player.specs.InPlay.{InPlay, KeepsUp};
 ghost use Rattle.pg_player.specs.Stand.{body_at, threat_of, standing_of};
 
@@ -70,11 +70,8 @@ fn trees_move(
     plan: ShortPlan,
     last: Option<u16>,
 ) -> Made
-    requires switching { g.now.kind ≡ Switching }
+    requires turn { IsSwitchingTurn g.now p.now X }
     requires joined { HasJoiner joiner.old g.now }
-    requires position { IsPosition g.now p.now }
-    requires going { is_over g.now p.now ≡ false }
-    requires turn { p.now.turn ≡ X }
     requires held { HeldUntil g.now p.now (λ q. TreesHold g.now q plan.first plan.second) last }
     ensures keeps { (c : Claim) → InPlay g.now c (record {
       body = Trees false plan.first plan.second;
@@ -102,11 +99,8 @@ fn cuts_move(
     plan: CutPlan,
     last: Option<u16>,
 ) -> Made
-    requires switching { g.now.kind ≡ Switching }
+    requires turn { IsSwitchingTurn g.now p.now Y }
     requires joined { HasJoiner joiner.old g.now }
-    requires position { IsPosition g.now p.now }
-    requires going { is_over g.now p.now ≡ false }
-    requires turn { p.now.turn ≡ Y }
     requires held { HeldUntil g.now p.now (λ q. CutsHold g.now q plan.first plan.second) last }
     ensures keeps { (c : Claim) → InPlay g.now c (record {
       body = Cuts false plan.first plan.second;

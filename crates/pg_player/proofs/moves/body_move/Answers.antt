@@ -6,8 +6,7 @@ use Rattle.pg_player.specs.declared.moves.Made.{Made}
 use Rattle.pg_player.proofs.Arriving.{Settles-node}
 use Rattle.pg_player.proofs.Going.{small}
 use Rattle.pg_player.proofs.Plays.{not-full}
-use Rattle.pg_player.proofs.Keeping.{keeps-move, keeps-pairs, trees-held, cuts-held, trees-whole}
-use Rattle.pg_player.proofs.Keeping.{cuts-whole}
+use Rattle.pg_player.proofs.Keeping.{keeps-move, keeps-pairs, trees-turn, cuts-turn, trees-held, cuts-held, trees-whole, cuts-whole}
 use Rattle.pg_player.proofs.moves.body_move.Goals as goal
 
 pub answer-point-requires-clause-position : goal.answer-point-requires-clause-position
@@ -19,8 +18,18 @@ answer-point-requires-clause-some_free c = not-full c.args.g.now c.args.p.now c.
 pub potential_point-requires-clause-position : goal.potential_point-requires-clause-position
 potential_point-requires-clause-position c = c.requires.playing.position
 
-pub trees_move-requires-clause-position : goal.trees_move-requires-clause-position
-trees_move-requires-clause-position c = c.requires.playing.position
+pub trees_move-requires-clause-turn : goal.trees_move-requires-clause-turn
+trees_move-requires-clause-turn c =
+    let whole : c.args.body.now
+    ≡ Trees c.in-Trees.with_e c.as_set.result.now c.as_set-in-Trees.result.now = c.in-Trees.is
+    ∙ ap₂ (Trees c.in-Trees.with_e) (sym c.as_set.ensures) (sym c.as_set-in-Trees.ensures) in
+    let h = subst (λ (b : Body). InPlay c.args.g.now c.args.claim.now (record {
+      body = b;
+      last = c.args.last;
+      imagined = c.args.p.now;
+    })) whole c.requires.playing in
+    trees-turn c.args.g.now c.args.claim.now c.args.p.now c.in-Trees.with_e c.as_set.result.now
+    c.as_set-in-Trees.result.now c.args.last h c.requires.going c.requires.turn
 
 pub trees_move-requires-clause-held : goal.trees_move-requires-clause-held
 trees_move-requires-clause-held c =
@@ -32,8 +41,19 @@ trees_move-requires-clause-held c =
     c.start-plan.result.second (c.start-plan.ensures.first ∙ c.with_e_named.ensures)
     c.start-plan.ensures.second whole c.requires.playing c.requires.going c.requires.turn
 
-pub cuts_move-requires-clause-position : goal.cuts_move-requires-clause-position
-cuts_move-requires-clause-position c = c.requires.playing.position
+pub cuts_move-requires-clause-turn : goal.cuts_move-requires-clause-turn
+cuts_move-requires-clause-turn c =
+    let whole : c.args.body.now
+    ≡ Cuts c.in-Cuts.with_e c.as_set-in-Cuts.result.now c.as_set-in-Cuts-2.result.now = c.in-Cuts.is
+    ∙ ap₂ (Cuts c.in-Cuts.with_e) (sym c.as_set-in-Cuts.ensures) (sym c.as_set-in-Cuts-2.ensures) in
+    let h = subst (λ (b : Body). InPlay c.args.g.now c.args.claim.now (record {
+      body = b;
+      last = c.args.last;
+      imagined = c.args.p.now;
+    })) whole c.requires.playing in
+    cuts-turn c.args.g.now c.args.claim.now c.args.p.now c.in-Cuts.with_e
+    c.as_set-in-Cuts.result.now c.as_set-in-Cuts-2.result.now c.args.last h c.requires.going
+    c.requires.turn
 
 pub cuts_move-requires-clause-held : goal.cuts_move-requires-clause-held
 cuts_move-requires-clause-held c =

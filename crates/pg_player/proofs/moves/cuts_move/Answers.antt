@@ -8,12 +8,13 @@ use Rattle.pg_player.proofs.Keeping.{cuts_kind, keeps-cuts}
 use Rattle.pg_player.proofs.moves.cuts_move.Goals as goal
 
 pub stay-requires : goal.stay-requires
-stay-requires c = small c.args.g.now c.answer-point.result c.answer-point.ensures.within
+stay-requires c = small c.args.g.now c.answer-point.result c.answer-point.ensures.leaves.within
 
 pub returns-clause-keeps : goal.returns-clause-keeps
 returns-clause-keeps c = λ claim h.
     let e = c.answer-point.ensures in
-    let mine = c.requires.turn ∙ sym (cuts_kind c.args.g.now.kind claim.side h.stands.allowed).1 in
+    let mine =
+    c.requires.turn.turn ∙ sym (cuts_kind c.args.g.now.kind claim.side h.stands.allowed).1 in
     subst (λ (m : Made). KeepsUp c.args.g.now claim (record {
       body = Cuts false c.args.plan.first c.args.plan.second;
       last = c.args.last;
@@ -21,4 +22,4 @@ returns-clause-keeps c = λ claim h.
     }) m.point (standing_of claim.nodes m.stand)) (sym c.stay.ensures)
     (keeps-cuts c.args.g.now claim c.args.p.now c.args.plan.first c.args.plan.second c.args.last
     c.answer-point.result c.answer-point.new.self.first c.answer-point.new.self.second h
-    c.requires.going mine e.rule e.within e.free e.holds)
+    c.requires.turn.going mine e.rule e.leaves)

@@ -5,14 +5,30 @@ use Rattle.pg_player.specs.declared.standing.Rest.{Rest}
 use Rattle.pg_player.specs.InPlay.{InPlay, KeepsUp}
 use Rattle.pg_player.specs.Stand.{body_of, standing_of}
 use Rattle.pg_player.proofs.Going.{small}
-use Rattle.pg_player.proofs.Keeping.{keeps-threat}
+use Rattle.pg_player.proofs.Keeping.{trees-turn, cuts-turn, keeps-threat}
 use Rattle.pg_player.proofs.moves.own_move.Goals as goal
 
-pub trees_move-requires-clause-position : goal.trees_move-requires-clause-position
-trees_move-requires-clause-position c = c.requires.playing.position
+pub trees_move-requires-clause-turn : goal.trees_move-requires-clause-turn
+trees_move-requires-clause-turn c =
+    let s = c.args.stand in
+    let h = subst (λ (r : Rest). InPlay c.args.g.now c.args.claim.now (record {
+      body = body_of c.args.claim.now.nodes r;
+      last = s.last;
+      imagined = s.imagined;
+    })) c.in-Short.is c.requires.playing in
+    trees-turn c.args.g.now c.args.claim.now s.imagined false c.in-Short.plan.first
+    c.in-Short.plan.second s.last h c.requires.going c.requires.turn
 
-pub cuts_move-requires-clause-position : goal.cuts_move-requires-clause-position
-cuts_move-requires-clause-position c = c.requires.playing.position
+pub cuts_move-requires-clause-turn : goal.cuts_move-requires-clause-turn
+cuts_move-requires-clause-turn c =
+    let s = c.args.stand in
+    let h = subst (λ (r : Rest). InPlay c.args.g.now c.args.claim.now (record {
+      body = body_of c.args.claim.now.nodes r;
+      last = s.last;
+      imagined = s.imagined;
+    })) c.in-Cut.is c.requires.playing in
+    cuts-turn c.args.g.now c.args.claim.now s.imagined false c.in-Cut.plan.first
+    c.in-Cut.plan.second s.last h c.requires.going c.requires.turn
 
 pub stay-requires : goal.stay-requires
 stay-requires c =
