@@ -1,6 +1,6 @@
 //! The answer by the potential.
-ghost use Rattle.std.specs.Prelude.{◌≡◌, ◌≢◌, ◌<◌, false, true};
-ghost use Rattle.pg_potential.specs.Prelude.{MakerBreaker, MakerMaker, Switching, Y, is_free, point_count, is_full, after, IsPosition, PotentialHolds, potential_answer};
+ghost use Rattle.std.specs.Prelude.{◌≡◌, ◌≢◌, false};
+ghost use Rattle.pg_potential.specs.Prelude.{MakerBreaker, MakerMaker, Switching, Y, Contains, free_points, is_full, after, IsPosition, PotentialHolds, potential_answer};
 
 use crate::condition::{greatest_free, weights_for};
 use pg_base::Side;
@@ -16,8 +16,7 @@ pub fn answer(g: &Game, p: &Position, side: Side) -> u16
     requires position { IsPosition g.now p.now }
     requires some_free { is_full g.now p.now ≡ false }
     ensures rule { result ≡ potential_answer g.now p.now side }
-    ensures within { result < point_count g.now }
-    ensures free { is_free p.now result ≡ true }
+    ensures free { Contains (free_points g.now p.now) result }
     ensures keeps_breaker { g.now.kind ≡ MakerBreaker
         → side ≡ Y
         → p.now.turn ≡ side

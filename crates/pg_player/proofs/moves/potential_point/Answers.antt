@@ -1,4 +1,5 @@
 use Rattle.std.proofs.Common.{inl, inr}
+use Rattle.pg_player.proofs.Common.{member-free, member-within}
 use Rattle.pg_player.proofs.Plays.{not-full}
 use Rattle.pg_player.proofs.Keeping.{keeps-avoider, keeps-breaker, keeps-draw}
 use Rattle.pg_player.proofs.moves.potential_point.Goals as goal
@@ -21,9 +22,11 @@ pub returns-in-MakerBreaker : goal.returns-in-MakerBreaker
 returns-in-MakerBreaker c = λ last h.
     let e = c.answer-in-MakerBreaker.ensures in
     let v = c.answer-in-MakerBreaker.result in
+    let within = member-within c.args.g.now c.args.p.now v e.free in
+    let free = member-free c.args.g.now c.args.p.now v e.free in
     elim c.in-MakerBreaker.is [
       | inl breaker ↦ keeps-breaker c.args.g.now c.args.claim.now c.args.p.now last v breaker h
-          c.requires.going c.requires.turn e.rule e.within e.free e.keeps_breaker
+          c.requires.going c.requires.turn e.rule within free e.keeps_breaker
       | inr maker ↦ keeps-draw c.args.g.now c.args.claim.now c.args.p.now last v maker h
-          c.requires.going c.requires.turn e.rule e.within e.free e.keeps_draw
+          c.requires.going c.requires.turn e.rule within free e.keeps_draw
     ]

@@ -1,6 +1,5 @@
-use Rattle.std.proofs.Common.{◌≡◌, ◌<◌, ℕ, true, sym, ap, subst, ◌∙◌}
-use Rattle.pg_potential.proofs.Common.{Side, Y, is_free, point_count, after, PotentialHolds}
-use Rattle.pg_potential.proofs.Common.{potential_answer, member-free, member-within}
+use Rattle.std.proofs.Common.{◌≡◌, ℕ, sym, ap, subst, ◌∙◌}
+use Rattle.pg_potential.proofs.Common.{Contains, Side, Y, free_points, after, PotentialHolds, potential_answer, member-free}
 use Rattle.pg_potential.proofs.GreatestWeight.{answer-is, answer-good}
 use Rattle.pg_potential.proofs.PotentialLaws.{kept-answer_breaker, kept-answer_draw}
 use Rattle.pg_potential.proofs.answers.answer.Goals as goal
@@ -11,17 +10,6 @@ returns-clause-rule c =
     c.greatest_free-greatest.result c.lowest_with.result c.requires.lines
     c.weights_for-weights.ensures.points c.greatest_free-greatest.ensures c.lowest_with.ensures
 
-pub returns-clause-within : goal.returns-clause-within
-returns-clause-within c =
-    let g = c.args.g.now in
-    let p = c.args.p.now in
-    let is = answer-is g p c.args.side c.weights_for-weights.result.points
-    c.greatest_free-greatest.result c.lowest_with.result c.requires.lines
-    c.weights_for-weights.ensures.points c.greatest_free-greatest.ensures c.lowest_with.ensures in
-    subst (λ (n : ℕ). n < point_count g) (sym is)
-    (member-within g p (potential_answer g p c.args.side)
-    (answer-good g p c.args.side c.requires.some_free).0)
-
 pub returns-clause-free : goal.returns-clause-free
 returns-clause-free c =
     let g = c.args.g.now in
@@ -29,9 +17,8 @@ returns-clause-free c =
     let is = answer-is g p c.args.side c.weights_for-weights.result.points
     c.greatest_free-greatest.result c.lowest_with.result c.requires.lines
     c.weights_for-weights.ensures.points c.greatest_free-greatest.ensures c.lowest_with.ensures in
-    subst (λ (n : ℕ). is_free p n ≡ true) (sym is)
-    (member-free g p (potential_answer g p c.args.side)
-    (answer-good g p c.args.side c.requires.some_free).0)
+    subst (λ (n : ℕ). Contains (free_points g p) n) (sym is)
+    (answer-good g p c.args.side c.requires.some_free).0
 
 pub returns-clause-keeps_breaker : goal.returns-clause-keeps_breaker
 returns-clause-keeps_breaker c = λ kind is_y mine holds.
