@@ -1,6 +1,6 @@
 //! The answer by Avoider's potential.
 ghost use Rattle.std.specs.Prelude.{◌≡◌, ◌≢◌, ◌<◌, ◌^◌, ◌-◌, ℕ, length, get_or, map, false, true, if◌then◌else◌};
-ghost use Rattle.pg_avoider.specs.Prelude.{AvoiderEnforcer, Switching, XWins, X, is_free, point_count, free_points, is_full, is_over, outcome, after, IsPosition, least, avoider_answer, AvoiderHolds};
+ghost use Rattle.pg_avoider.specs.Prelude.{AvoiderEnforcer, Switching, XWins, X, Contains, is_free, point_count, free_points, is_full, is_over, outcome, after, IsPosition, least, avoider_answer, AvoiderHolds};
 
 use pg_game::{Game, MAX_POINTS, Position, lowest_with, weigh};
 
@@ -46,8 +46,7 @@ pub fn answer(g: &Game, p: &Position) -> u16
     requires position { IsPosition g.now p.now }
     requires some_free { is_full g.now p.now ≡ false }
     ensures rule { result ≡ avoider_answer g.now p.now }
-    ensures within { result < point_count g.now }
-    ensures free { is_free p.now result ≡ true }
+    ensures free { Contains (free_points g.now p.now) result }
     ensures wins { g.now.kind ≡ AvoiderEnforcer
         → p.now.turn ≡ X
         → AvoiderHolds g.now p.now

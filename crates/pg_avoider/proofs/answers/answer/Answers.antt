@@ -1,6 +1,5 @@
 use Rattle.std.proofs.Common.{◌≡◌, ◌<◌, ℕ, true, sym, subst}
-use Rattle.pg_avoider.proofs.Common.{XWins, is_free, point_count, after, outcome, AvoiderHolds}
-use Rattle.pg_avoider.proofs.Common.{IsBaseOf-two}
+use Rattle.pg_avoider.proofs.Common.{Contains, XWins, is_free, point_count, free_points, after, avoider_answer, outcome, AvoiderHolds, IsBaseOf-two, free-member}
 use Rattle.pg_avoider.proofs.AvoiderLaws.{answer-is, answer-free, answer-wins, answer-keeps}
 use Rattle.pg_avoider.proofs.answers.answer.Goals as goal
 
@@ -12,15 +11,6 @@ returns-clause-rule c = answer-is c.args.g.now c.args.p.now c.weigh-weights.resu
     c.least_free-least.result c.lowest_with.result c.requires.lines c.weigh-weights.ensures.points
     c.least_free-least.ensures c.lowest_with.ensures
 
-pub returns-clause-within : goal.returns-clause-within
-returns-clause-within c =
-    let g = c.args.g.now in
-    let p = c.args.p.now in
-    let is = answer-is g p c.weigh-weights.result.points c.least_free-least.result
-    c.lowest_with.result c.requires.lines c.weigh-weights.ensures.points c.least_free-least.ensures
-    c.lowest_with.ensures in
-    subst (λ (n : ℕ). n < point_count g) (sym is) (answer-free g p c.requires.some_free).0
-
 pub returns-clause-free : goal.returns-clause-free
 returns-clause-free c =
     let g = c.args.g.now in
@@ -28,7 +18,9 @@ returns-clause-free c =
     let is = answer-is g p c.weigh-weights.result.points c.least_free-least.result
     c.lowest_with.result c.requires.lines c.weigh-weights.ensures.points c.least_free-least.ensures
     c.lowest_with.ensures in
-    subst (λ (n : ℕ). is_free p n ≡ true) (sym is) (answer-free g p c.requires.some_free).1
+    let here = answer-free g p c.requires.some_free in
+    subst (λ (n : ℕ). Contains (free_points g p) n) (sym is)
+    (free-member g p (avoider_answer g p) here.0 here.1)
 
 pub returns-clause-wins : goal.returns-clause-wins
 returns-clause-wins c = λ kind mine holds over.

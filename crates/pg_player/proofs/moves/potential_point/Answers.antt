@@ -15,8 +15,10 @@ answer-requires-in-MakerBreaker-clause-some_free c =
 pub returns-in-AvoiderEnforcer : goal.returns-in-AvoiderEnforcer
 returns-in-AvoiderEnforcer c = λ last h.
     let e = c.answer.ensures in
-    keeps-avoider c.args.g.now c.args.claim.now c.args.p.now last c.answer.result
-    c.in-AvoiderEnforcer.is h c.requires.going c.requires.turn e.rule e.within e.free e.wins e.keeps
+    let v = c.answer.result in
+    keeps-avoider c.args.g.now c.args.claim.now c.args.p.now last v c.in-AvoiderEnforcer.is h
+    c.requires.going c.requires.turn e.rule (member-within c.args.g.now c.args.p.now v e.free)
+    (member-free c.args.g.now c.args.p.now v e.free) e.wins e.keeps
 
 pub returns-in-MakerBreaker : goal.returns-in-MakerBreaker
 returns-in-MakerBreaker c = λ last h.
