@@ -1,7 +1,7 @@
 //! The class of an element of a ground, by two bases that share few elements.
 ghost use Rattle.std.specs.Prelude.{◌≡◌, ◌<◌, true, false};
-ghost use Rattle.pg_lehman.specs.Prelude.{contains, both, either, IsReached, IsLeast, IsSettled, LeadsFrom};
-ghost use Rattle.pg_lehman.specs.Taken.{IsTaken, IsPlaced, ReachesCommon, in_neither, only};
+ghost use Rattle.pg_lehman.specs.Prelude.{contains, both, IsReached, IsSettled, LeadsFrom};
+ghost use Rattle.pg_lehman.specs.Taken.{AreDistant, IsInOne, IsTaken, IsPlaced, ReachesCommon, in_neither, only};
 
 use crate::class::Class;
 use pg_base::{MAX_MEMBERS, PointSet};
@@ -51,9 +51,7 @@ pub fn decide<G: Ground>(bases: &mut Exchange<G>, e: u16) -> Class
 /// reached.
 fn short<G: Ground>(bases: &mut Exchange<G>, e: u16) -> Class
     requires element { (G.matroid bases.old.first).elements e ≡ true }
-    requires least { IsLeast (G.matroid bases.old.first) (G.base bases.old.first)
-        (G.base bases.old.second) }
-    requires settled { IsSettled (G.matroid bases.old.first) (G.base bases.old.first)
+    requires distant { AreDistant (G.matroid bases.old.first) (G.base bases.old.first)
         (G.base bases.old.second) }
     requires leads { LeadsFrom (G.matroid bases.old.first) (G.base bases.old.first)
         (G.base bases.old.second)
@@ -75,9 +73,7 @@ fn short<G: Ground>(bases: &mut Exchange<G>, e: u16) -> Class
 /// Brings e, which is reached, into neither base.
 fn free<G: Ground>(bases: &mut Exchange<G>, e: u16)
     requires element { (G.matroid bases.old.first).elements e ≡ true }
-    requires least { IsLeast (G.matroid bases.old.first) (G.base bases.old.first)
-        (G.base bases.old.second) }
-    requires settled { IsSettled (G.matroid bases.old.first) (G.base bases.old.first)
+    requires distant { AreDistant (G.matroid bases.old.first) (G.base bases.old.first)
         (G.base bases.old.second) }
     requires leads { LeadsFrom (G.matroid bases.old.first) (G.base bases.old.first)
         (G.base bases.old.second)
@@ -100,9 +96,7 @@ fn free<G: Ground>(bases: &mut Exchange<G>, e: u16)
 /// without either base.
 fn cut<G: Ground>(bases: &mut Exchange<G>, e: u16) -> Class
     requires element { (G.matroid bases.old.first).elements e ≡ true }
-    requires least { IsLeast (G.matroid bases.old.first) (G.base bases.old.first)
-        (G.base bases.old.second) }
-    requires settled { IsSettled (G.matroid bases.old.first) (G.base bases.old.first)
+    requires distant { AreDistant (G.matroid bases.old.first) (G.base bases.old.first)
         (G.base bases.old.second) }
     requires placed { IsPlaced (G.base bases.old.first) (G.base bases.old.second) e }
     requires leads { ReachesCommon (G.matroid bases.old.first) (G.base bases.old.first)
@@ -124,9 +118,7 @@ fn cut<G: Ground>(bases: &mut Exchange<G>, e: u16) -> Class
 /// Brings e, which reaches an element in both bases, into both.
 fn double<G: Ground>(bases: &mut Exchange<G>, e: u16)
     requires element { (G.matroid bases.old.first).elements e ≡ true }
-    requires least { IsLeast (G.matroid bases.old.first) (G.base bases.old.first)
-        (G.base bases.old.second) }
-    requires settled { IsSettled (G.matroid bases.old.first) (G.base bases.old.first)
+    requires distant { AreDistant (G.matroid bases.old.first) (G.base bases.old.first)
         (G.base bases.old.second) }
     requires placed { IsPlaced (G.base bases.old.first) (G.base bases.old.second) e }
     requires leads { ReachesCommon (G.matroid bases.old.first) (G.base bases.old.first)
@@ -147,8 +139,7 @@ fn double<G: Ground>(bases: &mut Exchange<G>, e: u16)
 /// cuts by what isn't reached.
 fn first<G: Ground>(bases: &Exchange<G>, e: u16, near: &PointSet, wide: &PointSet) -> Class
     requires element { (G.matroid bases.now.first).elements e ≡ true }
-    requires placed { IsPlaced (G.base bases.now.first) (G.base bases.now.second) e }
-    requires alone { both (G.base bases.now.first) (G.base bases.now.second) e ≡ false }
+    requires in_one { IsInOne (G.base bases.now.first) (G.base bases.now.second) e }
     requires near { IsReached (G.matroid bases.now.first).spans (G.matroid bases.now.first).elements
         (G.base bases.now.first) (G.base bases.now.second) (contains near.now) }
     requires wide { IsReached (G.matroid bases.now.first).spans (G.matroid bases.now.first).elements

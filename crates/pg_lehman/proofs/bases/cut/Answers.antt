@@ -18,11 +18,12 @@ returns-clause-taken g c =
     (subst (λ (q : Matroid). IsSettled q b d) (sym kept) c.double.ensures.settled)) in
     let far : contains c.without-far.result ≡ outside m.elements r = of_outside c.elements.result
     c.reached-near.result c.without-far.result c.without-far.ensures.difference
-    ∙ ap (λ (k : ℕ → Bool). outside k r)
-    (c.elements.ensures ∙ ap (λ (q : Matroid). q.elements) (c.reached-near.ensures.kept ∙ kept)) in
+    ∙ ap (λ (k : ℕ → Bool). outside k r) (c.elements.ensures
+    ∙ ap (λ (q : Matroid). q.elements) (c.reached-near.ensures.kept.first ∙ kept)) in
     let one : contains c.base.result ≡ d =
-    c.base.ensures ∙ c.reached-near.ensures.kept_second_base in
-    let two : contains c.base-2.result ≡ b = c.base-2.ensures ∙ c.reached-near.ensures.kept_base in
+    c.base.ensures ∙ c.reached-near.ensures.kept_bases.second in
+    let two : contains c.base-2.result ≡ b =
+    c.base-2.ensures ∙ c.reached-near.ensures.kept_bases.first in
     record {
       b = b;
       c = d;

@@ -30,8 +30,9 @@ returns-clause-taken g c =
       e_first = c.free.ensures.first;
       e_second = c.free.ensures.second;
       first = c.common_points.ensures
-          ∙ ap (λ (k : ℕ → Bool). both k r) (c.base.ensures ∙ c.reached-near.ensures.kept_base);
+          ∙ ap (λ (k : ℕ → Bool). both k r)
+          (c.base.ensures ∙ c.reached-near.ensures.kept_bases.first);
       second = c.common_points-2.ensures
           ∙ ap (λ (k : ℕ → Bool). both k r)
-          (c.base-2.ensures ∙ c.reached-near.ensures.kept_second_base);
+          (c.base-2.ensures ∙ c.reached-near.ensures.kept_bases.second);
     }
