@@ -20,16 +20,21 @@ pub fn maps_are_a_group()
     ensures followed { (grid : Grid) → (a : GridMap) → (b : GridMap) → IsMapOf grid a
         → IsMapOf grid b
         → IsMapOf grid (followed_by a b) }
-    ensures images { (grid : Grid) → (a : GridMap) → (b : GridMap) → (v : ℕ) → IsMapOf grid a
-        → IsMapOf grid b
-        → image_of (followed_by a b) grid v ≡ image_of b grid (image_of a grid v) }
     ensures associative { (a : GridMap) → (b : GridMap) → (c : GridMap)
         → followed_by (followed_by a b) c ≡ followed_by a (followed_by b c) }
     ensures neutral { (a : GridMap) → (followed_by identity a ≡ a) × (followed_by a identity ≡ a) }
-    ensures stays { (grid : Grid) → (v : ℕ) → image_of identity grid v ≡ v }
     ensures reverse { (grid : Grid) → (m : GridMap) → IsMapOf grid m → IsMapOf grid (reverse_of m) }
     ensures undone { (m : GridMap)
         → (followed_by m (reverse_of m) ≡ identity) × (followed_by (reverse_of m) m ≡ identity) }
+{}
+
+/// The group acts on the points: a map that follows another takes the points to which that one took
+/// them, map 0 leaves every point, and the reverse of a map undoes it on the points of the board.
+pub fn maps_act_on_points()
+    ensures images { (grid : Grid) → (a : GridMap) → (b : GridMap) → (v : ℕ) → IsMapOf grid a
+        → IsMapOf grid b
+        → image_of (followed_by a b) grid v ≡ image_of b grid (image_of a grid v) }
+    ensures stays { (grid : Grid) → (v : ℕ) → image_of identity grid v ≡ v }
     ensures inverse { (grid : Grid) → (m : GridMap) → IsMapOf grid m
         → AreInverse (grid.width * grid.height) (image_of m grid) (image_of (reverse_of m) grid) }
 {}
