@@ -1,7 +1,7 @@
 //! The criteria that decide a position without search.
-ghost use Rattle.std.specs.Prelude.{◌≡◌, ◌≢◌, ◌<◌, ◌≤◌, Some, IfOk, IfSome, true, false, option_map, is_some, None};
-ghost use Rattle.pg_leaf.specs.Prelude.{Switching, lines_of, is_over, IsPosition, decided, answer_for, attack_wins, pairs_exist, IsQuestion};
-ghost use Rattle.pg_leaf.specs.At.{IsAt};
+ghost use Rattle.std.specs.Prelude.{◌≡◌, ◌<◌, ◌≤◌, Some, IfOk, IfSome, true, false, option_map, is_some, None};
+ghost use Rattle.pg_leaf.specs.Prelude.{lines_of, is_over, decided, answer_for, attack_wins, pairs_exist};
+ghost use Rattle.pg_leaf.specs.At.{IsAskedAt, IsAt};
 ghost use Rattle.pg_match.specs.Cache.{Fits};
 ghost use Rattle.pg_threat.specs.Search.{points_of_line};
 ghost use Rattle.pg_leaf.specs.Leaf.{IsLeaf, IsAttackLine};
@@ -104,9 +104,7 @@ pub fn leaf(
     b: &mut Board<'_>,
     cache: &mut PairCache,
 ) -> Result<Option<(bool, Body)>, Memory>
-    requires asked { IsQuestion g.now.kind question }
-    requires lines { g.now.kind ≢ Switching }
-    requires position { IsPosition g.now p.now }
+    requires asked { IsAskedAt g.now question p.now }
     requires stands { IsAt g.now p.now b.old }
     requires fits { Fits cache.old (lines_of g.now) }
     ensures kept { b.new ≡ b.old }

@@ -1,8 +1,6 @@
 -- A cache of what matching answered, for one list of lines.
-use Rattle.std.specs.Prelude.{◌≡◌, ℕ, ◌+◌, ◌-◌, ◌^◌, Bool, true, false, ◌&&◌, List, ◌∷◌, ◌++◌, min}
-use Rattle.std.specs.Prelude.{take}
-use Rattle.pg_match.specs.Prelude.{All, Any, FinSet, nat_cmp, IsEquivalence, IsPartialEquivalence}
-use Rattle.pg_match.specs.Prelude.{decided, partial_equiv_from_equiv}
+use Rattle.std.specs.Prelude.{◌≡◌, ℕ, ◌+◌, ◌-◌, ◌^◌, ◌≤◌, Bool, true, false, ◌&&◌, List, ◌∷◌, ◌++◌, length, min, take}
+use Rattle.pg_match.specs.Prelude.{All, Any, FinSet, nat_cmp, IsEquivalence, IsPartialEquivalence, decided, partial_equiv_from_equiv}
 use Rattle.std.specs.Str.{bytes_eq}
 use Rattle.std.specs.Bool.{Decides}
 use Rattle.std.proofs.Common.{sym, ap, ◌∙◌}
@@ -116,11 +114,16 @@ pub data IsMiss (old new : Cache) (k : Kept) : Type 0 where
   keeps : new.kept ≡ k ∷ take (old.capacity - 1) old.kept → IsMiss old new k
   leaves : new.kept ≡ old.kept → IsMiss old new k
 
--- what an ask leaves
+-- what an ask leaves of the question and its answer
 pub record Remembers (old new : Cache) (k : Kept) : Type 0 where
   pub capacity : new.capacity ≡ old.capacity
   pub hit : IsHeld old k.asked → IsHit old new k
   pub missed : (IsHeld old k.asked → ⊥) → (new.hits ≡ old.hits) × IsMiss old new k
+
+-- what an ask leaves: it remembers, and keeps no more than its capacity
+pub record IsAfterAsk (old new : Cache) (k : Kept) : Type 0 where
+  pub remembers : Remembers old new k
+  pub room : length new.kept ≤ new.capacity
 
 -- what the leaf of pairs leaves: the cache as it was, or as an ask for the lines meant and the free
 -- points leaves it

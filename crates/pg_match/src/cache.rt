@@ -1,8 +1,8 @@
 //! A cache of recent answers of the matching.
-ghost use Rattle.std.specs.Prelude.{◌≡◌, ◌≤◌, ◌<◌, [], None, Some, IfOk, OnOk, OnErr, MatchOption, length};
+ghost use Rattle.std.specs.Prelude.{◌≡◌, ◌≤◌, ◌<◌, [], None, Some, IfOk, OnErr, MatchOption, length};
 ghost use Rattle.std.specs.Map.{lookup};
 ghost use Rattle.pg_match.specs.Private.{CanMatch, IsMatching, HasPointsBelow, told};
-ghost use Rattle.pg_match.specs.Cache.{Fits, Remembers, Answers, Keeps, same_asked};
+ghost use Rattle.pg_match.specs.Cache.{Fits, IsAfterAsk, Answers, Keeps, same_asked};
 
 use crate::matching::{Matching, private_pairs};
 use lru::LruCache;
@@ -177,11 +177,10 @@ impl PairCache {
         ensures answer { IfOk result (IsMatching lines.now wanted.now free.now) }
         ensures range { IfOk result (λ found. HasPointsBelow (told found)) }
         ensures fits { Fits self.new lines.now }
-        ensures remembers { IfOk result (λ found. Remembers self.old self.new (record {
+        ensures after { IfOk result (λ found. IsAfterAsk self.old self.new (record {
           asked = record { wanted = wanted.now; free = free.now };
           answer = told found;
         })) }
-        ensures room { OnOk result (length self.new.kept ≤ self.new.capacity) }
         ensures memory { OnErr result (self.new ≡ self.old) }
     {
         let asked = Question {

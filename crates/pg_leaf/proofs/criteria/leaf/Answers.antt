@@ -21,7 +21,7 @@ returns-in-Some-clause-body c =
     ∙ same-at (λ g p. by_end g c.args.question p) c.requires.stands.game
     c.requires.stands.position in
     end-leaf c.args.g.now c.args.question c.args.p.now c.by_end.result c.in-Some.answer end
-    c.in-Some.is c.requires.asked c.requires.position
+    c.in-Some.is c.requires.asked.question c.requires.asked.position
 
 pub returns-then-defends-clause-decided : goal.returns-then-defends-clause-decided
 returns-then-defends-clause-decided c =
@@ -50,8 +50,8 @@ returns-then-defends-clause-body c =
     ∙ c.if-defends.true in
     subst (λ (b : Bool). IsLeaf c.args.g.now c.args.question c.args.p.now b Potential)
     (sym (c.answer_for.ensures ∙ ap answer_for c.defender-side.ensures))
-    (potential-leaf c.args.g.now c.args.question c.args.p.now going holds c.requires.asked
-    c.requires.lines c.requires.position)
+    (potential-leaf c.args.g.now c.args.question c.args.p.now going holds c.requires.asked.question
+    c.requires.asked.lines c.requires.asked.position)
 
 pub returns-in-Some-2-clause-decided : goal.returns-in-Some-2-clause-decided
 returns-in-Some-2-clause-decided c =
@@ -88,7 +88,7 @@ returns-in-Some-2-clause-body c =
     c.args.b.now.stand.position c.requires.stands.game c.requires.stands.position
     (rw c.in-Some-2.is at c.in_ok-points.ensures.line) in
     let leaf = threat-leaf c.args.g.now c.args.question c.args.p.now c.in-Some-2.points.items going
-    weak wins line c.requires.position in
+    weak wins line c.requires.asked.position in
     rw (c.answer_for-in-Some-2.ensures, c.from_vec.ensures) leaf
 
 pub returns-in-Some-3-clause-decided : goal.returns-in-Some-3-clause-decided
@@ -130,7 +130,7 @@ returns-in-Some-3-clause-body c =
     ∙ ap is_some c.in-Some-3.is in
     let leaf = pairs-leaf c.args.g.now c.args.question c.args.p.now c.in-Some-3.pairs.items going
     weak slow exist (rw c.defender-side.ensures at rw c.in-Some-3.is at c.in_ok-pairs.ensures.hold)
-    c.requires.asked c.requires.lines c.requires.position in
+    c.requires.asked.question c.requires.asked.lines c.requires.asked.position in
     rw (c.answer_for-in-Some-3.ensures, c.defender-side.ensures, c.from_vec-in-Some-3.ensures) leaf
 
 pub returns-in-None-clause-decided : goal.returns-in-None-clause-decided

@@ -105,7 +105,7 @@ returns-in_err-completed-in-Pairs-clause-cache c =
     c.points_of.result.now c.in_ok-wanted.wanted.items (sym (ap field_lines c.in-Lines.is))
     (c.points_of.ensures ∙ ap (points_of c.args.p.now) c.breaker_of.ensures)
     c.in_ok-wanted.ensures.lines in
-    asked _ c.in_ok-pairs.ensures.remembers
+    asked _ c.in_ok-pairs.ensures.after.remembers
     (subst (AreMeant c.args.g.now c.args.p.now c.args.side) (sym c.deref-2.ensures.value) meant)
     (free-in_game c.args.g.now c.args.p.now c.free_points-free.result
     c.free_points-free.ensures.members)
@@ -116,7 +116,7 @@ returns-in-Pairs-clause-cache c =
     c.points_of.result.now c.in_ok-wanted.wanted.items (sym (ap field_lines c.in-Lines.is))
     (c.points_of.ensures ∙ ap (points_of c.args.p.now) c.breaker_of.ensures)
     c.in_ok-wanted.ensures.lines in
-    asked _ c.in_ok-pairs.ensures.remembers
+    asked _ c.in_ok-pairs.ensures.after.remembers
     (subst (AreMeant c.args.g.now c.args.p.now c.args.side) (sym c.deref-2.ensures.value) meant)
     (free-in_game c.args.g.now c.args.p.now c.free_points-free.result
     c.free_points-free.ensures.members)
@@ -127,7 +127,7 @@ returns-clause-cache c =
     c.points_of.result.now c.in_ok-wanted.wanted.items (sym (ap field_lines c.in-Lines.is))
     (c.points_of.ensures ∙ ap (points_of c.args.p.now) c.breaker_of.ensures)
     c.in_ok-wanted.ensures.lines in
-    asked _ c.in_ok-pairs.ensures.remembers
+    asked _ c.in_ok-pairs.ensures.after.remembers
     (subst (AreMeant c.args.g.now c.args.p.now c.args.side) (sym c.deref-2.ensures.value) meant)
     (free-in_game c.args.g.now c.args.p.now c.free_points-free.result
     c.free_points-free.ensures.members)

@@ -58,44 +58,6 @@ returns-in-Some-clause-fits c = hit-fits_to c.args.self.now c.self.inside.kept.e
     }) (c.in_ok-to_vec.ensures.items_if_clones_equal (λ x y e. e))) c.args.lines.now
     c.promote.ensures.entries c.requires.fits
 
-pub returns-in-Some-clause-remembers : goal.returns-in-Some-clause-remembers
-returns-in-Some-clause-remembers c =
-    let found = MatchOption-at_some _ _ c.in-Some.answer c.in-Some.is c.in_ok-answer.ensures in
-    hit-remembers_to c.args.self.now c.self.inside.kept.entries c.self.inside.kept.cap
-    c.self.inside.hits c.promote.new.self c.self.view_is (record {
-      wanted = c.in_ok-to_vec.field-0.items;
-      free = c.args.free.now;
-    }) (record { wanted = c.args.wanted.now; free = c.args.free.now }) (ap (λ (w : List ℕ). record {
-      wanted = w;
-      free = c.args.free.now;
-    }) (c.in_ok-to_vec.ensures.items_if_clones_equal (λ x y e. e)))
-    c.saturating_add-self-inside.result found.entry _ found.found found.same
-    c.promote.ensures.entries c.saturating_add-self-inside.ensures
-
-pub returns-in-Some-clause-room : goal.returns-in-Some-clause-room
-returns-in-Some-clause-room c =
-    let found = MatchOption-at_some _ _ c.in-Some.answer c.in-Some.is c.in_ok-answer.ensures in
-    let kept = hit-length_to c.args.self.now c.self.inside.kept.entries c.self.inside.kept.cap
-    c.self.inside.hits c.promote.new.self c.self.view_is (record {
-      wanted = c.in_ok-to_vec.field-0.items;
-      free = c.args.free.now;
-    }) (record { wanted = c.args.wanted.now; free = c.args.free.now }) (ap (λ (w : List ℕ). record {
-      wanted = w;
-      free = c.args.free.now;
-    }) (c.in_ok-to_vec.ensures.items_if_clones_equal (λ x y e. e))) found.entry found.found
-    c.promote.ensures.entries c.self.invariant.0 c.self.invariant.1 in
-    omega (arith, kept.1, length-map c.promote.new.self.entries kept_of)
-
-pub returns-clause-room : goal.returns-clause-room
-returns-clause-room c =
-    let none = MatchOption-at_none _ _ c.in_default.is c.in_ok-answer.ensures in
-    let kept =
-    miss-length c.self.inside.kept.entries c.self.inside.kept.cap c.keep.new.kept (record {
-      wanted = c.in_ok-to_vec.field-0.items;
-      free = c.args.free.now;
-    }) c.in_ok-answer-2.answer none c.keep.ensures c.self.invariant.0 c.self.invariant.1 in
-    omega (arith, kept.1, length-map c.keep.new.kept.entries kept_of)
-
 pub invariant_of-self-2 : goal.invariant_of-self-2
 invariant_of-self-2 c =
     let none = MatchOption-at_none _ _ c.in_default.is c.in_ok-answer.ensures in
@@ -117,15 +79,55 @@ returns-clause-fits c =
     }) (c.in_ok-to_vec.ensures.items_if_clones_equal (λ x y e. e))) c.args.lines.now
     c.in_ok-answer-2.answer none c.keep.ensures c.requires.fits c.in_ok-answer-2.ensures.answer
 
-pub returns-clause-remembers : goal.returns-clause-remembers
-returns-clause-remembers c =
-    let none = MatchOption-at_none _ _ c.in_default.is c.in_ok-answer.ensures in
-    miss-remembers_to c.args.self.now c.self.inside.kept.entries c.self.inside.kept.cap
-    c.self.inside.hits c.keep.new.kept c.self.view_is (record {
+pub returns-in-Some-clause-after : goal.returns-in-Some-clause-after
+returns-in-Some-clause-after c =
+    let found = MatchOption-at_some _ _ c.in-Some.answer c.in-Some.is c.in_ok-answer.ensures in
+    let kept = hit-length_to c.args.self.now c.self.inside.kept.entries c.self.inside.kept.cap
+    c.self.inside.hits c.promote.new.self c.self.view_is (record {
       wanted = c.in_ok-to_vec.field-0.items;
       free = c.args.free.now;
     }) (record { wanted = c.args.wanted.now; free = c.args.free.now }) (ap (λ (w : List ℕ). record {
       wanted = w;
       free = c.args.free.now;
-    }) (c.in_ok-to_vec.ensures.items_if_clones_equal (λ x y e. e))) c.in_ok-answer-2.answer none
-    c.keep.ensures
+    }) (c.in_ok-to_vec.ensures.items_if_clones_equal (λ x y e. e))) found.entry found.found
+    c.promote.ensures.entries c.self.invariant.0 c.self.invariant.1 in
+    record {
+      remembers = hit-remembers_to c.args.self.now c.self.inside.kept.entries c.self.inside.kept.cap
+          c.self.inside.hits c.promote.new.self c.self.view_is (record {
+            wanted = c.in_ok-to_vec.field-0.items;
+            free = c.args.free.now;
+          }) (record {
+            wanted = c.args.wanted.now;
+            free = c.args.free.now;
+          }) (ap (λ (w : List ℕ). record {
+            wanted = w;
+            free = c.args.free.now;
+          }) (c.in_ok-to_vec.ensures.items_if_clones_equal (λ x y e. e)))
+          c.saturating_add-self-inside.result found.entry _ found.found found.same
+          c.promote.ensures.entries c.saturating_add-self-inside.ensures;
+      room = omega (arith, kept.1, length-map c.promote.new.self.entries kept_of);
+    }
+
+pub returns-clause-after : goal.returns-clause-after
+returns-clause-after c =
+    let none = MatchOption-at_none _ _ c.in_default.is c.in_ok-answer.ensures in
+    let kept =
+    miss-length c.self.inside.kept.entries c.self.inside.kept.cap c.keep.new.kept (record {
+      wanted = c.in_ok-to_vec.field-0.items;
+      free = c.args.free.now;
+    }) c.in_ok-answer-2.answer none c.keep.ensures c.self.invariant.0 c.self.invariant.1 in
+    record {
+      remembers = miss-remembers_to c.args.self.now c.self.inside.kept.entries
+          c.self.inside.kept.cap c.self.inside.hits c.keep.new.kept c.self.view_is (record {
+            wanted = c.in_ok-to_vec.field-0.items;
+            free = c.args.free.now;
+          }) (record {
+            wanted = c.args.wanted.now;
+            free = c.args.free.now;
+          }) (ap (λ (w : List ℕ). record {
+            wanted = w;
+            free = c.args.free.now;
+          }) (c.in_ok-to_vec.ensures.items_if_clones_equal (λ x y e. e))) c.in_ok-answer-2.answer
+          none c.keep.ensures;
+      room = omega (arith, kept.1, length-map c.keep.new.kept.entries kept_of);
+    }
