@@ -1,13 +1,10 @@
--- What a search may answer.
-use Rattle.std.specs.Prelude.{◌≡◌, ℕ, suc, ◌<◌, ◌≤◌, ◌+◌, ◌*◌, Bool, true, false, List, length}
-use Rattle.std.specs.Prelude.{Some, slice_get, ◌⊎◌}
-use Rattle.pg_pns.specs.Prelude.{Contains, Position, Node, Game, Score, start, free_points, IsClaim}
-use Rattle.pg_pns.specs.Prelude.{IsOfVersion, IsValidClaim, criterion_of, first_criterion}
-use Rattle.pg_pns.specs.Prelude.{position_of, Claim, One, claimer, claimed_goal, IsOpenTable}
-use Rattle.pg_pns.specs.Prelude.{IsUsed}
+-- What a search may answer, and what it leaves in the work at every answer.
+use Rattle.std.specs.Prelude.{◌≡◌, ℕ, suc, ◌<◌, ◌≤◌, ◌+◌, ◌*◌, Bool, true, false, List, length, Some, slice_get, ◌⊎◌}
+use Rattle.pg_pns.specs.Prelude.{Contains, Position, Node, Game, Score, start, free_points, IsClaim, IsOfVersion, IsValidClaim, criterion_of, first_criterion, position_of, Claim, One, claimer, claimed_goal, IsOpenTable, IsUsed}
 use Rattle.pg_pns.specs.declared.work.Found.{Found}
 use Rattle.pg_pns.specs.declared.work.Found.TheVariants.{Yes, No, Unknown}
-use Rattle.pg_pns.specs.Search.{Follows}
+use Rattle.pg_pns.specs.Expanded.{Expanded}
+use Rattle.pg_pns.specs.Search.{Follows, IsListed}
 
 -- The claim shows the answer: it is valid and within the limits of version 1 of the format, a
 -- decided position has the leaf of the first criterion, the last node is the game's position, they
@@ -44,3 +41,9 @@ abbrev pub IsAnswer : Game → Score → ℕ → List Position → Found → Typ
 IsAnswer g t budget table (Yes c) = IsClaimOf g t table true c
 IsAnswer g t budget table (No c) = IsClaimOf g t table false c
 IsAnswer g t budget table Unknown = IsOpenTable g t budget table
+
+-- the work has the question, and the positions expanded for it by the rules, no more than the
+-- budget
+pub record IsWorkOf (g : Game) (t : Score) (budget : ℕ) (work : Expanded) : Type 0 where
+  pub question : work.question ≡ Some t
+  pub listed : IsListed g t budget work.positions

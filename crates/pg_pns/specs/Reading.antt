@@ -1,13 +1,20 @@
 -- What a search is asked, and what it reads the answers of criteria from.
-use Rattle.std.specs.Prelude.{◌≡◌, ◌≢◌, ◌<◌, ℕ, true}
-use Rattle.pg_pns.specs.Prelude.{Cache, Fits, Game, IsAt, IsPosition, IsQuestion, Position, Score}
-use Rattle.pg_pns.specs.Prelude.{Switching, View, is_free, lines_of, point_count}
+use Rattle.std.specs.Prelude.{◌≡◌, ◌≢◌, ◌<◌, ◌≤◌, ◌*◌, ℕ, length, true}
+use Rattle.pg_pns.specs.Prelude.{Cache, Fits, Game, IsAt, IsPosition, IsQuestion, MAX_CLAIM_NODES, Position, Score, Switching, View, free_points, is_free, lines_of, point_count, start}
+use Rattle.pg_pns.specs.declared.limits.TheConstants.{MAX_EXPANDED_MOVES}
 use Rattle.pg_pns.specs.Descent.{IsAtStart}
 
 -- the game is on lines, and the question is one for its kind
 pub record IsAskedOf (g : Game) (t : Score) : Type 0 where
   pub question : IsQuestion g.kind t
   pub lines : g.kind ≢ Switching
+
+-- so many positions may be expanded: at least one, at most as many as a claim has nodes, and so few
+-- that a claim has room for the moves of all
+pub record IsBudget (g : Game) (budget : ℕ) : Type 0 where
+  pub some : 1 ≤ budget
+  pub limit : budget ≤ MAX_CLAIM_NODES
+  pub few : budget * length (free_points g (start g)) ≤ MAX_EXPANDED_MOVES
 
 -- the board stands at a position of the game, and the cache has answers for its lines
 pub record IsReadAt (g : Game) (t : Score) (p : Position) (b : View) (cache : Cache) : Type 0 where

@@ -1,8 +1,9 @@
 //! The search as it is called.
-ghost use Rattle.std.specs.Prelude.{◌≡◌, ◌≢◌, ◌≤◌, ◌*◌, Some, IfOk, length};
-ghost use Rattle.pg_pns.specs.Prelude.{Switching, IsQuestion, free_points, lines_of, start, IsTable, Fits, MAX_CLAIM_NODES};
+ghost use Rattle.std.specs.Prelude.{◌≡◌, ◌≤◌, ◌*◌, IfOk, length};
+ghost use Rattle.pg_pns.specs.Prelude.{free_points, lines_of, start, Fits};
 ghost use Rattle.pg_pns.specs.Budget.{budget_for, most_for};
-ghost use Rattle.pg_pns.specs.Found.{IsAnswer};
+ghost use Rattle.pg_pns.specs.Found.{IsAnswer, IsWorkOf};
+ghost use Rattle.pg_pns.specs.Reading.{IsAskedOf, IsBudget};
 
 use crate::asked::Asked;
 use crate::expansion::explore;
@@ -51,16 +52,11 @@ pub fn search(
     budget: u32,
     work: &mut Work,
 ) -> Result<Found, Memory>
-    requires asked { IsQuestion g.now.kind question }
-    requires lines { g.now.kind ≢ Switching }
-    requires some { 1 ≤ budget }
-    requires limit { budget ≤ MAX_CLAIM_NODES }
-    requires few { budget * length (free_points g.now (start g.now)) ≤ MAX_EXPANDED_MOVES }
+    requires asked { IsAskedOf g.now question }
+    requires budget { IsBudget g.now budget }
     ensures answer { IfOk result
         (λ found. IsAnswer g.now question budget work.new.positions found) }
-    ensures question { work.new.question ≡ Some question }
-    ensures rules { IsTable g.now question work.new.positions }
-    ensures count { length work.new.positions ≤ budget }
+    ensures work { IsWorkOf g.now question budget work.new }
 {
     work.begin(question);
     let mut cache = PairCache::new(alloc, MAX_SEARCH_ANSWERS)?;
@@ -82,18 +78,13 @@ pub fn search_with(
     work: &mut Work,
     cache: &mut PairCache,
 ) -> Result<Found, Memory>
-    requires asked { IsQuestion g.now.kind question }
-    requires lines { g.now.kind ≢ Switching }
-    requires some { 1 ≤ budget }
-    requires limit { budget ≤ MAX_CLAIM_NODES }
-    requires few { budget * length (free_points g.now (start g.now)) ≤ MAX_EXPANDED_MOVES }
+    requires asked { IsAskedOf g.now question }
+    requires budget { IsBudget g.now budget }
     requires fits { Fits cache.old (lines_of g.now) }
     ensures fits { Fits cache.new (lines_of g.now) }
     ensures answer { IfOk result
         (λ found. IsAnswer g.now question budget work.new.positions found) }
-    ensures question { work.new.question ≡ Some question }
-    ensures rules { IsTable g.now question work.new.positions }
-    ensures count { length work.new.positions ≤ budget }
+    ensures work { IsWorkOf g.now question budget work.new }
 {
     work.begin(question);
     let asked = Asked { game: g, question };

@@ -1,17 +1,5 @@
 -- What the proofs of this crate name of std and of the crates below.
-pub use Rattle.pg_solve.specs.Prelude.{All, AreEdgeSets, AreFreeEdges, AreFreeWithE, ArePoints}
-pub use Rattle.pg_solve.specs.Prelude.{AvoiderEnforcer, Body, Cert, Claim, Cuts, CutsHoldOn, Draw}
-pub use Rattle.pg_solve.specs.Prelude.{EndsRight, Expanded, FinSet, FollowMoves, Forces, Game, Goal}
-pub use Rattle.pg_solve.specs.Prelude.{HasCuts, HasPairs, HasPotential, HasThreat, HasTrees}
-pub use Rattle.pg_solve.specs.Prelude.{HasTurn, IsAnswer, IsBody, IsClaim, IsClaimOf, IsOfVersion}
-pub use Rattle.pg_solve.specs.Prelude.{IsOpenTable, IsPosition, IsReachable, IsTable, IsValid}
-pub use Rattle.pg_solve.specs.Prelude.{IsValidClaim, IsWithinLimits, Kind, MakerBreaker, MakerMaker}
-pub use Rattle.pg_solve.specs.Prelude.{NamesEarlier, Node, One, Position, Score, SetsHold, Side}
-pub use Rattle.pg_solve.specs.Prelude.{Switching, TakesFree, Trees, TreesHoldOn, Win, X, XWins, Y}
-pub use Rattle.pg_solve.specs.Prelude.{YWins, claimed_goal, claimer, contains, has_body, insert}
-pub use Rattle.pg_solve.specs.Prelude.{is_allowed, is_switching, nat_cmp, node_count, point_count}
-pub use Rattle.pg_solve.specs.Prelude.{position_of, reaches, remove, start, value, with_e_named}
-pub use Rattle.pg_solve.specs.Prelude.{with_turn}
+pub use Rattle.pg_solve.specs.Prelude.{All, AreEdgeSets, AreFreeEdges, AreFreeWithE, ArePoints, AvoiderEnforcer, Body, Cert, Claim, Cuts, CutsHoldOn, Draw, EndsRight, Expanded, FinSet, FollowMoves, Forces, Game, Goal, HasCuts, HasPairs, HasPotential, HasThreat, HasTrees, HasTurn, IsAnswer, IsBody, IsClaim, IsClaimOf, IsOfVersion, IsOpenTable, IsPosition, IsReachable, IsTable, IsValid, IsValidClaim, IsWithinLimits, IsWorkOf, Kind, MakerBreaker, MakerMaker, NamesEarlier, Node, One, Position, Score, SetsHold, Side, Switching, TakesFree, Trees, TreesHoldOn, Win, X, XWins, Y, YWins, claimed_goal, claimer, contains, has_body, insert, is_allowed, is_switching, nat_cmp, node_count, point_count, position_of, reaches, remove, start, value, with_e_named, with_turn}
 pub use Rattle.pg_base.proofs.Stands.{contains_at, one_at}
 pub use Rattle.pg_game.proofs.Moves.{IsPosition-after, IsPosition-start, IsPosition-with_turn}
 pub use Rattle.pg_pns.proofs.TableLaws.{table-reached}

@@ -1,11 +1,6 @@
 -- What is found by questions and by classes, as the clauses of solving say it.
-use Rattle.std.proofs.Common.{◌≡◌, ◌∙◌, ℕ, zero, suc, ◌<◌, ◌≤◌, true, false, List, [], ◌∷◌, Some}
-use Rattle.std.proofs.Common.{length, map, refl, sym, ap, subst, subst₂, arith, slice_get, IfSome}
-use Rattle.pg_solve.proofs.Common.{none-some, All, Goal, Win, Kind, MakerBreaker, MakerMaker}
-use Rattle.pg_solve.proofs.Common.{AvoiderEnforcer, Switching, Score, XWins, Draw, YWins, Side, X}
-use Rattle.pg_solve.proofs.Common.{Y, IsClaim, IsOfVersion, IsWithinLimits, node_count, IsValid}
-use Rattle.pg_solve.proofs.Common.{IsValidClaim, Cert, Claim, One, claimed_goal, is_switching}
-use Rattle.pg_solve.proofs.Common.{IsTable, IsOpenTable, Game, Position, Expanded}
+use Rattle.std.proofs.Common.{◌≡◌, ◌∙◌, ℕ, zero, suc, ◌<◌, ◌≤◌, true, false, List, [], ◌∷◌, Some, length, map, refl, sym, ap, subst, subst₂, arith, slice_get, IfSome}
+use Rattle.pg_solve.proofs.Common.{none-some, All, Goal, Win, Kind, MakerBreaker, MakerMaker, AvoiderEnforcer, Switching, Score, XWins, Draw, YWins, Side, X, Y, IsClaim, IsOfVersion, IsWithinLimits, node_count, IsValid, IsValidClaim, Cert, Claim, One, claimed_goal, is_switching, IsTable, IsOpenTable, IsWorkOf, Game, Position, Expanded}
 use Rattle.pg_base.specs.declared.goal.Goal.TheVariants.{Draw as AtLeastDraw}
 use Rattle.pg_cert.specs.declared.cert.Version.{Version}
 use Rattle.pg_solve.proofs.Searching.{claims-value, denied-value, yes-win, no-win}
@@ -16,21 +11,30 @@ use Rattle.pg_solve.specs.Solved.{certificate_of, due, is_class, IsTrueOf, IsSho
 use Rattle.pg_solve.specs.declared.solution.Solution.{Solution}
 use Rattle.pg_solve.specs.declared.solution.Solution.TheVariants.{Value, Class as ForClass, Unknown}
 
--- ---- the second question
+-- ---- the questions
+
+pub left-first : (g : Game) (budget : ℕ) (work : Expanded)
+    → IsWorkOf g XWins budget work
+    → IsLeft g budget work
+left-first g budget work is = record {
+  question = XWins;
+  held = is.question;
+  asked = tt;
+  rules = is.listed.rules;
+  count = is.listed.count;
+}
 
 pub left-second : (g : Game) (budget : ℕ) (denial : Claim) (work : Expanded)
     → g.kind ≡ MakerMaker
     → IsSearched g budget XWins false denial
-    → work.question ≡ Some Draw
-    → IsTable g Draw work.positions
-    → length work.positions ≤ budget
+    → IsWorkOf g Draw budget work
     → IsLeft g budget work
-left-second g budget denial work kind denied held rules count = record {
+left-second g budget denial work kind denied is = record {
   question = Draw;
-  held = held;
+  held = is.question;
   asked = (kind, denied-value g budget denial kind denied);
-  rules = rules;
-  count = count;
+  rules = is.listed.rules;
+  count = is.listed.count;
 }
 
 pub open-second : (g : Game) (budget : ℕ) (denial : Claim) (work : Expanded)

@@ -1,8 +1,7 @@
 //! The questions that are asked of a game on lines: whether X wins, and whether X at least draws.
-ghost use Rattle.std.specs.Prelude.{◌≡◌, ◌≢◌, ◌≤◌, ◌*◌, length, false, IfOk};
-ghost use Rattle.pg_solve.specs.Prelude.{MakerMaker, Switching, XWins, free_points, start};
-ghost use Rattle.pg_game.specs.declared.bounds.TheConstants.{MAX_POSITIONS};
-ghost use Rattle.pg_pns.specs.declared.limits.TheConstants.{MAX_EXPANDED_MOVES};
+ghost use Rattle.std.specs.Prelude.{◌≡◌, ◌≢◌, false, IfOk};
+ghost use Rattle.pg_solve.specs.Prelude.{MakerMaker, Switching, XWins};
+ghost use Rattle.pg_pns.specs.Reading.{IsBudget};
 ghost use Rattle.pg_solve.specs.Left.{IsLeft};
 ghost use Rattle.pg_solve.specs.Searched.{IsSearched};
 ghost use Rattle.pg_solve.specs.Solved.{IsFoundBy};
@@ -24,9 +23,7 @@ fn ask_second(
     denial: Claim,
 ) -> Result<Solution, Memory>
     requires kind { game.now.kind ≡ MakerMaker }
-    requires some { 1 ≤ budget }
-    requires limit { budget ≤ MAX_POSITIONS }
-    requires few { budget * length (free_points game.now (start game.now)) ≤ MAX_EXPANDED_MOVES }
+    requires budget { IsBudget game.now budget }
     requires denied { IsSearched game.now budget XWins false denial }
     ensures found { IfOk result (IsFoundBy game.now budget work.new) }
     ensures left { IsLeft game.now budget work.new }
@@ -52,9 +49,7 @@ pub(crate) fn ask_first(
     work: &mut Work,
 ) -> Result<Solution, Memory>
     requires lines { game.now.kind ≢ Switching }
-    requires some { 1 ≤ budget }
-    requires limit { budget ≤ MAX_POSITIONS }
-    requires few { budget * length (free_points game.now (start game.now)) ≤ MAX_EXPANDED_MOVES }
+    requires budget { IsBudget game.now budget }
     ensures found { IfOk result (IsFoundBy game.now budget work.new) }
     ensures left { IsLeft game.now budget work.new }
 {

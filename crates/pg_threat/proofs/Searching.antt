@@ -12,8 +12,7 @@ use Rattle.pg_threat.proofs.Common.{near-stays, near-filling, IsForced, attackin
 use Rattle.pg_threat.proofs.Common.{unfilled-going}
 use Rattle.pg_threat.specs.declared.line.ThreatLine.{ThreatLine}
 use Rattle.pg_threat.specs.Lacking.{is_lacking, is_partner, IsLackedTwice, come_to, left_to}
-use Rattle.pg_threat.specs.Search.{Begins, points_of_line, IsFirstOf, NoneBelow, IsFound}
-use Rattle.pg_threat.specs.Search.{IsAnswering, Replied, IsTried, IsSearching}
+use Rattle.pg_threat.specs.Search.{Begins, points_of_line, IsFirstOf, NoneBelow, IsFound, IsAnswering, Replied, IsTried, IsSearching, SearchesAt}
 use Rattle.pg_threat.specs.Forced.{IsAnswer}
 use Rattle.pg_threat.proofs.LineCounts.{one-lacked, one-near, lacking-free}
 use Rattle.pg_threat.proofs.Partners.{partner-lacking}
@@ -24,11 +23,15 @@ use Rattle.pg_threat.proofs.Attacks.{replied-leads, leads-tried}
 -- the list that was found is this one
 pub found-as : (P : List ℕ → Type 0) (depth : ℕ) (t : ThreatLine) (points : List ℕ)
     → points_of_line t ≡ points
+    → length points ≡ t.len
     → IsFirstOf P points
     → depth_of points ≡ depth
     → IsFound P depth (Some t)
-found-as P depth t points same first deep =
-    (subst (λ (xs : List ℕ). IsFirstOf P xs) (sym same) first, ap depth_of same ∙ deep)
+found-as P depth t points same whole first deep = record {
+  first = subst (λ (xs : List ℕ). IsFirstOf P xs) (sym same) first;
+  deep = ap depth_of same ∙ deep;
+  whole = ap (λ (xs : List ℕ). length xs) same ∙ whole;
+}
 
 -- a smaller point comes first, and of lists that begin with the same point what follows decides
 first-less : (v w : ℕ) (points others : List ℕ)
@@ -42,24 +45,38 @@ first-less v w points others le rest = elim (cases_eq w v) [
 
 -- ---- attacks
 
-module _ (g : Game) (p : Position) (side : Side) (attacking : IsAttacking g p side) (depth : ℕ)
-    (some : 1 ≤ depth) (least : NoneBelow (LeadsToLine g p side) depth) where
+module _ (g : Game) (p : Position) (side : Side) (depth : ℕ)
+    (searches : SearchesAt g p side depth) where
   far : (v : ℕ) → Near g p side v → ⊥
-  far = none-near g p side depth attacking some least
-
-  pub far-lacked : (v : ℕ) → is_lacking g p side 1 v ≡ false
-  far-lacked v = elim (cases_Bool (is_lacking g p side 1 v)) [
-    | inl on ↦ absurd (far v (one-near g p side attacking.position.disjoint v on))
-    | inr off ↦ off
-  ]
+  far = none-near g p side depth searches.attacking searches.some searches.least
 
   -- a list that leads to a line begins with one of all attacks that are tried
   pub begins-all : (attacks : FinSet nat_cmp)
       → ((v : ℕ) → (contains attacks v ≡ true) ↔ IsTried g p side v)
       → Begins g p side depth attacks
   begins-all attacks tried w points deep leads = (tried w).1
-      (leads-tried g p side w points attacking.turn attacking.position.disjoint
-      attacking.unfilled.mine far leads).0
+      (leads-tried g p side w points searches.attacking.turn searches.attacking.position.disjoint
+      searches.attacking.unfilled.mine far leads).0
+
+  -- where the side lacks more than one point of each line, an attack's replies are the other points
+  -- of the lines through it
+  pub replies-are : (v : ℕ)
+      → IsAttack g p v
+      → (u : ℕ) → is_partner g p side v u ≡ is_lacking g (after g p v) side 1 u
+  replies-are v at =
+      partner-lacking g side p searches.attacking.turn searches.attacking.position.disjoint far v at
+
+  module _ (v : ℕ) (at : IsAttack g p v) (answering : IsAnswering g (after g p v) side) where
+    leads-on : (points : List ℕ)
+        → Replied g (after g p v) side points
+        → LeadsToLine g p side (v ∷ points)
+    leads-on points h = replied-leads g p side v points at.range at.free answering h
+
+    -- after an attack no list of less depth goes on
+    pub attack-least : NoneBelow (Replied g (after g p v) side) depth
+    attack-least points h =
+        let le = searches.least (v ∷ points) (leads-on points h) in
+        omega (arith, le, attack-depth g side v points (after g p v) h)
 
   module _ (attacks : FinSet nat_cmp)
       (tried : (v : ℕ) → contains attacks v ≡ true → IsTried g p side v)
@@ -101,22 +118,10 @@ module _ (g : Game) (p : Position) (side : Side) (attacking : IsAttacking g p si
         let free = lacking-free g p side 2 v (tried v member).two in
         record { range = free.0; free = free.1 }
 
-    module _ (one : g.bias ≡ 1) (v : ℕ) (member : contains attacks v ≡ true) where
+    module _ (v : ℕ) (member : contains attacks v ≡ true) where
       pub attack-answering : IsAnswering g (after g p v) side
-      attack-answering = answering-after g side one p attacking v far (tried v member)
-
-      leads-on : (points : List ℕ)
-          → Replied g (after g p v) side points
-          → LeadsToLine g p side (v ∷ points)
-      leads-on points h =
-          let at = attack-free v member in
-          replied-leads g p side v points at.range at.free attack-answering h
-
-      -- after it no list of less depth goes on
-      pub attack-least : NoneBelow (Replied g (after g p v) side) depth
-      attack-least points h =
-          let le = least (v ∷ points) (leads-on points h) in
-          omega (arith, le, attack-depth g side v points (after g p v) h)
+      attack-answering =
+          answering-after g side searches.single p searches.attacking v far (tried v member)
 
       -- where none of that depth does, no list with this attack leads to a line
       pub attack-fails : (next : Option ℕ)
@@ -131,8 +136,8 @@ module _ (g : Game) (p : Position) (side : Side) (attacking : IsAttacking g p si
         | inl e ↦
             let same = subst (λ (x : ℕ). LeadsToLine g p side (x ∷ points)) e leads in
             let replied =
-            (leads-tried g p side v points attacking.turn attacking.position.disjoint
-            attacking.unfilled.mine far same).1 in
+            (leads-tried g p side v points searches.attacking.turn
+            searches.attacking.position.disjoint searches.attacking.unfilled.mine far same).1 in
             none points replied
             (omega (arith, deep, attack-depth g side v points (after g p v) replied))
         | inr ne ↦
@@ -146,12 +151,16 @@ module _ (g : Game) (p : Position) (side : Side) (attacking : IsAttacking g p si
           → IsSearching g p side depth attacks next
           → IsFound (Replied g (after g p v) side) depth (Some found)
           → points_of_line t ≡ v ∷ points_of_line found
+          → t.len ≡ found.len + 1
           → IsFound (LeadsToLine g p side) depth (Some t)
-      attack-found next found t here searching h same =
+      attack-found next found t here searching h same len =
           let points = points_of_line found in
-          let deep = attack-depth g side v points (after g p v) h.0.is in
+          let deep = attack-depth g side v points (after g p v) h.first.is in
           found-as (LeadsToLine g p side) depth t (v ∷ points) same
-          (record { is = leads-on points h.0.is; first = first }) (deep ∙ h.1)
+          (omega (arith, h.whole, len)) (record {
+            is = leads-on v (attack-free v member) attack-answering points h.first.is;
+            first = first;
+          }) (deep ∙ h.deep)
         where
           first : (others : List ℕ)
               → LeadsToLine g p side others
@@ -159,19 +168,20 @@ module _ (g : Game) (p : Position) (side : Side) (attacking : IsAttacking g p si
               → ComesFirst (v ∷ points_of_line found) others
           first [] leads deep = absurd leads
           first (w ∷ others) leads deep =
-              let depths = attack-depth g side v (points_of_line found) (after g p v) h.0.is in
+              let depths = attack-depth g side v (points_of_line found) (after g p v) h.first.is in
               elim (cases_lt w v) [
                 | inl early ↦
                     let come = ap (come_to 1024) here in
                     absurd
-                    (searching.none w others (omega (arith, come)) (deep ∙ depths ∙ h.1) leads)
+                    (searching.none w others (omega (arith, come)) (deep ∙ depths ∙ h.deep) leads)
                 | inr late ↦ first-less v w (points_of_line found) others late (λ e.
                     let same = subst (λ (x : ℕ). LeadsToLine g p side (x ∷ others)) e leads in
-                    let replied = (leads-tried g p side v others attacking.turn
-                    attacking.position.disjoint attacking.unfilled.mine far same).1 in
+                    let replied = (leads-tried g p side v others searches.attacking.turn
+                    searches.attacking.position.disjoint searches.attacking.unfilled.mine far
+                    same).1 in
                     let same_depth = attack-depth g side v others (after g p v) replied in
                     let heads : depth_of (w ∷ others) ≡ depth_of (v ∷ others) = omega arith in
-                    h.0.first others replied (sym same_depth ∙ sym heads ∙ deep ∙ depths))
+                    h.first.first others replied (sym same_depth ∙ sym heads ∙ deep ∙ depths))
               ]
 
     -- where no attack is left none leads to a line
@@ -183,17 +193,6 @@ module _ (g : Game) (p : Position) (side : Side) (attacking : IsAttacking g p si
         searching.none w points (omega (arith, at.range, point_count-le g)) deep leads
 
 -- ---- replies
-
--- where the side lacks more than one point of each line, an attack's replies are the other points
--- of the lines through it
-pub replies-are : (g : Game) (p : Position) (side : Side) (v : ℕ)
-    → IsAttacking g p side
-    → ((u : ℕ) → is_lacking g p side 1 u ≡ false)
-    → IsAttack g p v
-    → (u : ℕ) → is_partner g p side v u ≡ is_lacking g (after g p v) side 1 u
-replies-are g p side v attacking far at =
-    partner-lacking g side p attacking.turn attacking.position.disjoint
-    (λ w n. false≢true (sym (far w) ∙ one-lacked g p side attacking.position.disjoint w n)) v at
 
 module _ (g : Game) (q : Position) (side : Side) (one : g.bias ≡ 1)
     (answering : IsAnswering g q side) where
@@ -263,11 +262,13 @@ module _ (g : Game) (q : Position) (side : Side) (one : g.bias ≡ 1)
       pub reply-two : (w : ℕ) (t : ThreatLine)
           → IsLeastFrom replies (u + 1) w
           → points_of_line t ≡ u ∷ (w ∷ [])
+          → t.len ≡ 2
           → IsFound (Replied g q side) 1 (Some t)
-      reply-two w t next same = found-as (Replied g q side) 1 t (u ∷ (w ∷ [])) same (record {
-        is = two-replied u w (reply-near u least.member) (reply-near w next.member) apart;
-        first = first;
-      }) refl
+      reply-two w t next same len = found-as (Replied g q side) 1 t (u ∷ (w ∷ [])) same (sym len)
+          (record {
+            is = two-replied u w (reply-near u least.member) (reply-near w next.member) apart;
+            first = first;
+          }) refl
         where
           apart : u ≢ w
           apart e = let above = next.above in absurd (omega arith)
@@ -362,12 +363,14 @@ module _ (g : Game) (q : Position) (side : Side) (one : g.bias ≡ 1)
         pub reply-found : (found t : ThreatLine)
             → IsFound (LeadsToLine g (after g q u) side) (depth - 1) (Some found)
             → points_of_line t ≡ u ∷ points_of_line found
+            → t.len ≡ found.len + 1
             → IsFound (Replied g q side) depth (Some t)
-        reply-found found t h same =
+        reply-found found t h same len =
             let points = points_of_line found in
-            let deep = replied-depth g side u points q (reply-leads points h.0.is) in
-            found-as (Replied g q side) depth t (u ∷ points) same
-            (record { is = reply-leads points h.0.is; first = first }) (omega (arith, deep, h.1))
+            let deep = replied-depth g side u points q (reply-leads points h.first.is) in
+            found-as (Replied g q side) depth t (u ∷ points) same (omega (arith, h.whole, len))
+            (record { is = reply-leads points h.first.is; first = first })
+            (omega (arith, deep, h.deep))
           where
             first : (others : List ℕ)
                 → Replied g q side others
@@ -380,25 +383,23 @@ module _ (g : Game) (q : Position) (side : Side) (one : g.bias ≡ 1)
                 subst (λ (x : ℕ). LeadsToLine g (after g q x) side others) same replied.1 in
                 let one = replied-depth g side v others q replied in
                 let two = replied-depth g side u (points_of_line found) q
-                (reply-leads (points_of_line found) h.0.is) in
-                inr (sym same, h.0.first others leads (omega (arith, deep, one, two)))
+                (reply-leads (points_of_line found) h.first.is) in
+                inr (sym same, h.first.first others leads (omega (arith, deep, one, two)))
 
 -- ---- lists of depth 1
 
 -- which attacks may begin a list of a depth: all that are tried, and for depth 1 those that are
 -- lacked on two lines
-pub begins-depth : (g : Game) (p : Position) (side : Side) (one : g.bias ≡ 1)
-    (attacking : IsAttacking g p side) (depth : ℕ) (some : 1 ≤ depth)
-    (least : NoneBelow (LeadsToLine g p side) depth) (all forks attacks : FinSet nat_cmp)
+pub begins-depth : (g : Game) (p : Position) (side : Side) (depth : ℕ)
+    (searches : SearchesAt g p side depth) (all forks attacks : FinSet nat_cmp)
     → attacks ≡ (if depth == 1 then forks else all)
     → ((v : ℕ) → (contains all v ≡ true) ↔ IsTried g p side v)
     → ((v : ℕ) → contains all v ≡ true
     → IsLackedTwice g p side 2 (length (lines_of g)) v
     → contains forks v ≡ true)
     → Begins g p side depth attacks
-begins-depth g p side one attacking depth some least all forks attacks is tried twice v points deep
-    leads =
-    let member = begins-all g p side attacking depth some least all tried v points deep leads in
+begins-depth g p side depth searches all forks attacks is tried twice v points deep leads =
+    let member = begins-all g p side depth searches all tried v points deep leads in
     elim (cases_Bool (depth == 1)) [
       | inr deeper ↦
           subst (λ (s : FinSet nat_cmp). contains s v ≡ true) (sym (is ∙ pick_all deeper)) member
@@ -413,7 +414,7 @@ begins-depth g p side one attacking depth some least all forks attacks is tried 
     pick_forks on = rw on refl
 
     far-off : (u : ℕ) → Near g p side u → ⊥
-    far-off = none-near g p side depth attacking some least
+    far-off = none-near g p side depth searches.attacking searches.some searches.least
 
     fork : (points : List ℕ)
         → depth_of (v ∷ points) ≡ 1
@@ -423,13 +424,13 @@ begins-depth g p side one attacking depth some least all forks attacks is tried 
     fork (u ∷ []) deep leads = absurd leads.1
     fork (u ∷ (w ∷ [])) deep leads =
         let f = leads.0 in
-        let answering = answering-after g side one p attacking v far-off
-        (leads-tried g p side v (u ∷ (w ∷ [])) attacking.turn attacking.position.disjoint
-        attacking.unfilled.mine far-off leads).0 in
+        let answering = answering-after g side searches.single p searches.attacking v far-off
+        (leads-tried g p side v (u ∷ (w ∷ [])) searches.attacking.turn
+        searches.attacking.position.disjoint searches.attacking.unfilled.mine far-off leads).0 in
         let at = near-from g (after g p v) side u f.threat in
-        let there = last-near g (after g p v) side one answering u w at leads.1 in
-        fork-twice g side p attacking.turn attacking.position.disjoint far-off v u w f.attack at
-        there.0 there.1
+        let there = last-near g (after g p v) side searches.single answering u w at leads.1 in
+        fork-twice g side p searches.attacking.turn searches.attacking.position.disjoint far-off v u
+        w f.attack at there.0 there.1
     fork (u ∷ (w ∷ (x ∷ points))) deep leads =
         let long = leads-length g side (v ∷ (u ∷ (w ∷ (x ∷ points)))) p leads in
         absurd (omega (arith, long))
@@ -502,7 +503,7 @@ forced-far g p side depth may disjoint going turn one two =
 module _ (g : Game) (p : Position) (side : Side) (one : g.bias ≡ 1)
     (may : may_attack g.kind side ≡ true) (position : IsPosition g p) (going : is_over g p ≡ false)
     (turn : p.turn ≡ side) where
-  pub forced-attacking : IsAttacking g p side
+  forced-attacking : IsAttacking g p side
   forced-attacking = record {
     position = position;
     turn = turn;
@@ -512,21 +513,34 @@ module _ (g : Game) (p : Position) (side : Side) (one : g.bias ≡ 1)
   line-of : (points : List ℕ) → LeadsToLine g p side points → IsThreatLine g p side points
   line-of points leads = record { single = one; going = going; turn = turn; leads = leads }
 
+  -- where there is none of less depth, lists of a depth are searched
+  pub forced-searches : (depth : ℕ)
+      → NoneBelow (LeadsToLine g p side) depth
+      → 1 ≤ depth
+      → depth ≤ 3
+      → SearchesAt g p side depth
+  forced-searches depth least some few = record {
+    attacking = forced-attacking;
+    single = one;
+    least = least;
+    some = some;
+    few = few;
+  }
+
   -- what was found at the least depth is the answer
   pub forced-found : (depth least : ℕ) (t : ThreatLine)
       → least ≤ depth
-      → t.len ≡ 2 * least + 1
       → NoneBelow (LeadsToLine g p side) least
       → IsFound (LeadsToLine g p side) least (Some t)
       → IsAnswer g p side depth (Some t)
-  forced-found depth least t few len none h = record {
+  forced-found depth least t few none h = record {
     first = record {
-      line = line-of (points_of_line t) h.0.is;
-      least = λ others line. let le = none others line.leads in omega (arith, h.1);
-      first = λ others line deep. h.0.first others line.leads deep;
+      line = line-of (points_of_line t) h.first.is;
+      least = λ others line. let le = none others line.leads in omega (arith, h.deep);
+      first = λ others line deep. h.first.first others line.leads deep;
     };
-    few = omega (arith, h.1);
-    whole = omega (arith, leads-length g side (points_of_line t) p h.0.is, h.1);
+    few = omega (arith, h.deep);
+    whole = h.whole;
   }
 
   -- the last attack of all, where there is one
@@ -536,8 +550,9 @@ module _ (g : Game) (p : Position) (side : Side) (one : g.bias ≡ 1)
       → points_of_line t ≡ v ∷ []
       → t.len ≡ 1
       → IsAnswer g p side depth (Some t)
-  forced-near depth wins v t is least same len = forced-found depth 0 t (omega arith) len
-      (λ points leads. omega arith) (found-as (LeadsToLine g p side) 0 t (v ∷ []) same (record {
+  forced-near depth wins v t is least same len = forced-found depth 0 t (omega arith)
+      (λ points leads. omega arith)
+      (found-as (LeadsToLine g p side) 0 t (v ∷ []) same (sym len) (record {
         is = wins-at;
         first = first;
       }) refl)

@@ -1,9 +1,9 @@
 //! The search for a threat line.
-ghost use Rattle.std.specs.Prelude.{◌≡◌, ◌≤◌, ◌<◌, ◌+◌, ◌*◌, ◌↔◌, ℕ, true, false, Some, IfSome, length, ◌==◌, ◌&&◌, if◌then◌else◌};
+ghost use Rattle.std.specs.Prelude.{◌≡◌, ◌≤◌, ◌<◌, ◌+◌, ◌↔◌, ℕ, true, false, length, ◌==◌, ◌&&◌, if◌then◌else◌};
 ghost use Rattle.pg_threat.specs.Prelude.{contains, after, is_over, lines_of, IsPosition, may_attack, IsAttack, LeadsToLine, IsAttacking, IsLeastFrom};
 ghost use Rattle.pg_threat.specs.Forced.{IsAnswer};
 ghost use Rattle.pg_threat.specs.Lacking.{is_lacking, is_partner, IsLackedTwice};
-ghost use Rattle.pg_threat.specs.Search.{Begins, IsAnswering, IsFound, IsTried, NoneBelow, Replied};
+ghost use Rattle.pg_threat.specs.Search.{Begins, IsAnswering, IsFound, IsTried, Replied, SearchesAt};
 
 use crate::lacking::{gains, is_far, is_idle, lacking, partners};
 use crate::line::ThreatLine;
@@ -118,16 +118,11 @@ fn first_of_depth(
     attacks: &PointSet,
     depth: u8,
 ) -> Option<ThreatLine>
-    requires attacking { IsAttacking b.old.game b.old.stand.position side }
-    requires single { b.old.game.bias ≡ 1 }
+    requires searches { SearchesAt b.old.game b.old.stand.position side depth }
     requires tried { (v : ℕ) → contains attacks.now v ≡ true
         → IsTried b.old.game b.old.stand.position side v }
     requires begins { Begins b.old.game b.old.stand.position side depth attacks.now }
-    requires least { NoneBelow (LeadsToLine b.old.game b.old.stand.position side) depth }
-    requires some { 1 ≤ depth }
-    requires few { depth ≤ 3 }
     ensures found { IsFound (LeadsToLine b.old.game b.old.stand.position side) depth result }
-    ensures len { IfSome result (λ t. t.len ≡ 2 * depth + 1) }
     ensures kept { b.new ≡ b.old }
 {
     let mut next = attacks.first_from(0);
@@ -141,26 +136,18 @@ fn first_of_depth(
 }
 
 /// The first list of exactly that depth that goes on after the attack at the point, by a forced
-/// reply, where none of less depth does.
+/// reply, where none of less depth leads to a line.
 ///
 /// The replies are read off the lines through the attack, and the last attack is a second point of
 /// them: for depth 1 nothing is played. Nor is it where the attack is idle: then a list that goes
 /// on after it and its reply would lead to a line without them, by less depth.
 #[cycle(attacks_and_replies)]
 fn answered(b: &mut Board<'_>, side: Side, v: u16, depth: u8) -> Option<ThreatLine>
-    requires attacking { IsAttacking b.old.game b.old.stand.position side }
-    requires far { (u : ℕ) → is_lacking b.old.game b.old.stand.position side 1 u ≡ false }
+    requires searches { SearchesAt b.old.game b.old.stand.position side depth }
     requires attack { IsAttack b.old.game b.old.stand.position v }
     requires answering { IsAnswering b.old.game (after b.old.game b.old.stand.position v) side }
-    requires single { b.old.game.bias ≡ 1 }
-    requires least { NoneBelow (Replied b.old.game (after b.old.game b.old.stand.position v) side)
-        depth }
-    requires whole { NoneBelow (LeadsToLine b.old.game b.old.stand.position side) depth }
-    requires some { 1 ≤ depth }
-    requires few { depth ≤ 3 }
     ensures found { IsFound (Replied b.old.game (after b.old.game b.old.stand.position v) side)
         depth result }
-    ensures len { IfSome result (λ t. t.len ≡ 2 * depth) }
     ensures kept { b.new ≡ b.old }
 {
     let replies = partners(b, side, v);

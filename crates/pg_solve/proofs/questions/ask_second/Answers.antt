@@ -7,32 +7,32 @@ use Rattle.pg_solve.proofs.questions.ask_second.Goals as goal
 pub returns-in_err-claim-clause-left : goal.returns-in_err-claim-clause-left
 returns-in_err-claim-clause-left c =
     left-second c.args.game.now c.args.budget c.args.denial c.search.new.work c.requires.kind
-    c.requires.denied c.search.ensures.question c.search.ensures.rules c.search.ensures.count
+    c.requires.denied c.search.ensures.work
 
 pub returns-in_err-two_claims-in-Yes-clause-left : goal.returns-in_err-two_claims-in-Yes-clause-left
 returns-in_err-two_claims-in-Yes-clause-left c =
     left-second c.args.game.now c.args.budget c.args.denial c.search.new.work c.requires.kind
-    c.requires.denied c.search.ensures.question c.search.ensures.rules c.search.ensures.count
+    c.requires.denied c.search.ensures.work
 
 pub returns-in_err-one_claim-in-No-clause-left : goal.returns-in_err-one_claim-in-No-clause-left
 returns-in_err-one_claim-in-No-clause-left c =
     left-second c.args.game.now c.args.budget c.args.denial c.search.new.work c.requires.kind
-    c.requires.denied c.search.ensures.question c.search.ensures.rules c.search.ensures.count
+    c.requires.denied c.search.ensures.work
 
 pub returns-in_ok-two_claims-in-Yes-clause-left : goal.returns-in_ok-two_claims-in-Yes-clause-left
 returns-in_ok-two_claims-in-Yes-clause-left c =
     left-second c.args.game.now c.args.budget c.args.denial c.search.new.work c.requires.kind
-    c.requires.denied c.search.ensures.question c.search.ensures.rules c.search.ensures.count
+    c.requires.denied c.search.ensures.work
 
 pub returns-in_ok-one_claim-in-No-clause-left : goal.returns-in_ok-one_claim-in-No-clause-left
 returns-in_ok-one_claim-in-No-clause-left c =
     left-second c.args.game.now c.args.budget c.args.denial c.search.new.work c.requires.kind
-    c.requires.denied c.search.ensures.question c.search.ensures.rules c.search.ensures.count
+    c.requires.denied c.search.ensures.work
 
 pub returns-in-Unknown-clause-left : goal.returns-in-Unknown-clause-left
 returns-in-Unknown-clause-left c =
     left-second c.args.game.now c.args.budget c.args.denial c.search.new.work c.requires.kind
-    c.requires.denied c.search.ensures.question c.search.ensures.rules c.search.ensures.count
+    c.requires.denied c.search.ensures.work
 
 pub returns-in-Unknown-clause-found : goal.returns-in-Unknown-clause-found
 returns-in-Unknown-clause-found c =
@@ -40,4 +40,4 @@ returns-in-Unknown-clause-found c =
     subst (λ (f : Found). IsAnswer c.args.game.now Draw c.args.budget c.search.new.work.positions f)
     c.in-Unknown.is c.in_ok-claim.ensures.answer in
     open-second c.args.game.now c.args.budget c.args.denial c.search.new.work c.requires.kind
-    c.requires.denied c.search.ensures.question unsettled
+    c.requires.denied c.search.ensures.work.question unsettled

@@ -9,12 +9,14 @@ use Rattle.pg_solve.proofs.solving.solve.Goals as goal
 pub ask_first-requires : goal.ask_first-requires
 ask_first-requires c = record {
   lines = c.in_default.not-Switching;
-  some = c.budget_of.ensures.some c.requires.some;
-  limit =
-      let most = c.budget_of.ensures.most in
-      let asked = c.requires.most in
-      omega (arith, most, asked);
-  few = c.budget_of.ensures.few;
+  budget = record {
+    some = c.budget_of.ensures.some c.requires.some;
+    limit =
+        let most = c.budget_of.ensures.most in
+        let asked = c.requires.most in
+        omega (arith, most, asked);
+    few = c.budget_of.ensures.few;
+  };
 }
 
 pub returns-in_default : goal.returns-in_default

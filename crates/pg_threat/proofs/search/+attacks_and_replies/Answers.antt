@@ -1,16 +1,10 @@
 use Rattle.std.proofs.Common.{◌≡◌, ◌<◌, ◌≤◌, ◌+◌, ◌-◌, ◌∷◌, ℕ, true, false, Some, None, refl, sym}
 use Rattle.std.proofs.Common.{ap, ◌∙◌, subst, arith}
 use Rattle.std.specs.Prelude.{◌↔◌, length}
-use Rattle.pg_threat.proofs.Common.{contains, point_count, lines_of, after, is_free, IsAttack}
-use Rattle.pg_threat.proofs.Common.{LeadsToLine, IsAttacking, Game, Position, point_count-le, View}
+use Rattle.pg_threat.proofs.Common.{contains, point_count, lines_of, after, is_free, IsAttack, LeadsToLine, Game, Position, point_count-le, View}
 use Rattle.pg_threat.specs.Lacking.{is_lacking, IsIdle, IsLackedTwice}
-use Rattle.pg_threat.specs.Search.{Begins, IsTried, IsFound, NoneBelow, Replied, IsAnswering}
-use Rattle.pg_threat.specs.Search.{IsSearching}
-use Rattle.pg_threat.proofs.Searching.{far-lacked, replies-are, tried-depth, begins-depth}
-use Rattle.pg_threat.proofs.Searching.{search-next, attack-free, attack-answering, attack-least}
-use Rattle.pg_threat.proofs.Searching.{reply-attacking, reply-least, attack-fails, attack-found}
-use Rattle.pg_threat.proofs.Searching.{attack-falls, search-over, reply-none, reply-one, reply-two}
-use Rattle.pg_threat.proofs.Searching.{reply-free, reply-found, reply-fails, reply-barren}
+use Rattle.pg_threat.specs.Search.{Begins, IsTried, IsFound, Replied, IsAnswering, IsSearching, SearchesAt}
+use Rattle.pg_threat.proofs.Searching.{replies-are, tried-depth, begins-depth, search-next, attack-free, attack-answering, attack-least, reply-attacking, reply-least, attack-fails, attack-found, attack-falls, search-over, reply-none, reply-one, reply-two, reply-free, reply-found, reply-fails, reply-barren}
 use Rattle.pg_threat.proofs.Idle.{reply-idle}
 use Rattle.pg_threat.proofs.Boards.{at_same, one-earlier, taken-back, two-played}
 use Rattle.pg_threat.proofs.search.+attacks_and_replies.Goals as goal
@@ -30,8 +24,8 @@ answered-returns-in_default-clause-found t c =
     let are : (x : ℕ)
     → contains c.partners-replies.result x ≡ is_lacking g (after g p v) c.args.side 1 x =
     λ x. c.partners-replies.ensures x
-    ∙ replies-are g p c.args.side v c.requires.attacking c.requires.far c.requires.attack x in
-    reply-none g (after g p v) c.args.side c.requires.single c.requires.answering
+    ∙ replies-are g p c.args.side c.args.depth c.requires.searches v c.requires.attack x in
+    reply-none g (after g p v) c.args.side c.requires.searches.single c.requires.answering
     c.partners-replies.result are c.args.depth c.in_default.ensures.none
 
 pub answered-returns-in-Some-first_from-clause-found :
@@ -43,13 +37,14 @@ answered-returns-in-Some-first_from-clause-found t c =
     let are : (x : ℕ)
     → contains c.partners-replies.result x ≡ is_lacking g (after g p v) c.args.side 1 x =
     λ x. c.partners-replies.ensures x
-    ∙ replies-are g p c.args.side v c.requires.attacking c.requires.far c.requires.attack x in
+    ∙ replies-are g p c.args.side c.args.depth c.requires.searches v c.requires.attack x in
     subst (λ (n : ℕ). IsFound (Replied g (after g p v) c.args.side) n (Some c.behind.result))
     (sym c.if-depth-eq1.true)
-    (reply-two g (after g p v) c.args.side c.requires.single c.requires.answering
+    (reply-two g (after g p v) c.args.side c.requires.searches.single c.requires.answering
     c.partners-replies.result are c.in-Some.u c.in-Some.ensures.found c.in-Some-first_from.w
     c.behind.result c.in-Some-first_from.ensures.found
-    (c.behind.ensures.points ∙ ap (λ xs. c.in-Some.u ∷ xs) c.last.ensures.points))
+    (c.behind.ensures.points ∙ ap (λ xs. c.in-Some.u ∷ xs) c.last.ensures.points)
+    (omega (arith, c.behind.ensures.len, c.last.ensures.len)))
 
 pub answered-returns-in-None-clause-found : goal.answered-returns-in-None-clause-found
 answered-returns-in-None-clause-found t c =
@@ -59,11 +54,18 @@ answered-returns-in-None-clause-found t c =
     let are : (x : ℕ)
     → contains c.partners-replies.result x ≡ is_lacking g (after g p v) c.args.side 1 x =
     λ x. c.partners-replies.ensures x
-    ∙ replies-are g p c.args.side v c.requires.attacking c.requires.far c.requires.attack x in
+    ∙ replies-are g p c.args.side c.args.depth c.requires.searches v c.requires.attack x in
     subst (λ (n : ℕ). IsFound (Replied g (after g p v) c.args.side) n None)
     (sym c.if-depth-eq1.true)
-    (reply-one g (after g p v) c.args.side c.requires.single c.requires.answering
+    (reply-one g (after g p v) c.args.side c.requires.searches.single c.requires.answering
     c.partners-replies.result are c.in-Some.u c.in-Some.ensures.found c.in-None.ensures.none)
+
+pub answered-leaves_none-requires-clause-attacking :
+    goal.answered-leaves_none-requires-clause-attacking
+answered-leaves_none-requires-clause-attacking t c = c.requires.searches.attacking
+
+pub answered-leaves_none-requires-clause-single : goal.answered-leaves_none-requires-clause-single
+answered-leaves_none-requires-clause-single t c = c.requires.searches.single
 
 pub answered-leaves_none-requires-clause-reply : goal.answered-leaves_none-requires-clause-reply
 answered-leaves_none-requires-clause-reply t c =
@@ -78,11 +80,13 @@ answered-returns-then-leaves_none-clause-found t c =
     let are : (x : ℕ)
     → contains c.partners-replies.result x ≡ is_lacking g (after g p v) c.args.side 1 x =
     λ x. c.partners-replies.ensures x
-    ∙ replies-are g p c.args.side v c.requires.attacking c.requires.far c.requires.attack x in
-    let deeper : 2 ≤ c.args.depth = omega arith in
-    reply-barren g (after g p v) c.args.side c.requires.single c.requires.answering
+    ∙ replies-are g p c.args.side c.args.depth c.requires.searches v c.requires.attack x in
+    let deeper : 2 ≤ c.args.depth =
+    omega (arith, c.requires.searches.some, c.if-depth-eq1.false) in
+    reply-barren g (after g p v) c.args.side c.requires.searches.single c.requires.answering
     c.partners-replies.result are c.in-Some.u c.in-Some.ensures.found c.args.depth deeper
-    c.requires.least (c.leaves_none.ensures c.if-leaves_none.true)
+    (attack-least g p c.args.side c.args.depth c.requires.searches v c.requires.attack
+    c.requires.answering) (c.leaves_none.ensures c.if-leaves_none.true)
 
 pub answered-returns-then-is_idle-clause-found : goal.answered-returns-then-is_idle-clause-found
 answered-returns-then-is_idle-clause-found t c =
@@ -92,13 +96,20 @@ answered-returns-then-is_idle-clause-found t c =
     let are : (x : ℕ)
     → contains c.partners-replies.result x ≡ is_lacking g (after g p v) c.args.side 1 x =
     λ x. c.partners-replies.ensures x
-    ∙ replies-are g p c.args.side v c.requires.attacking c.requires.far c.requires.attack x in
-    let deeper : 2 ≤ c.args.depth = omega arith in
-    reply-idle g p c.args.side c.requires.single c.requires.attacking v c.in-Some.u c.args.depth
-    deeper c.requires.attack c.requires.answering c.partners-replies.result are
-    c.in-Some.ensures.found c.requires.least c.requires.whole
+    ∙ replies-are g p c.args.side c.args.depth c.requires.searches v c.requires.attack x in
+    let deeper : 2 ≤ c.args.depth =
+    omega (arith, c.requires.searches.some, c.if-depth-eq1.false) in
+    reply-idle g p c.args.side c.requires.searches.single c.requires.searches.attacking v
+    c.in-Some.u c.args.depth deeper c.requires.attack c.requires.answering
+    c.partners-replies.result are c.in-Some.ensures.found
+    (attack-least g p c.args.side c.args.depth c.requires.searches v c.requires.attack
+    c.requires.answering) c.requires.searches.least
     (subst (λ (n : ℕ). IsIdle g p c.args.side v c.in-Some.u n) c.from.ensures
     (c.is_idle.ensures c.if-is_idle.true))
+
+pub answered-is_idle-requires-clause-few : goal.answered-is_idle-requires-clause-few
+answered-is_idle-requires-clause-few t c =
+    omega (arith, c.from.ensures, c.requires.searches.few)
 
 pub answered-play-requires-2-clause-range : goal.answered-play-requires-2-clause-range
 answered-play-requires-2-clause-range t c =
@@ -108,9 +119,9 @@ answered-play-requires-2-clause-range t c =
     let are : (x : ℕ)
     → contains c.partners-replies.result x ≡ is_lacking g (after g p v) c.args.side 1 x =
     λ x. c.partners-replies.ensures x
-    ∙ replies-are g p c.args.side v c.requires.attacking c.requires.far c.requires.attack x in
+    ∙ replies-are g p c.args.side c.args.depth c.requires.searches v c.requires.attack x in
     subst (λ (h : Game). c.in-Some.u < point_count h) (sym c.play.ensures.game)
-    (reply-free g (after g p v) c.args.side c.requires.single c.requires.answering
+    (reply-free g (after g p v) c.args.side c.requires.searches.single c.requires.answering
     c.partners-replies.result are c.in-Some.u c.in-Some.ensures.found.member).0
 
 pub answered-play-requires-2-clause-free : goal.answered-play-requires-2-clause-free
@@ -121,9 +132,9 @@ answered-play-requires-2-clause-free t c =
     let are : (x : ℕ)
     → contains c.partners-replies.result x ≡ is_lacking g (after g p v) c.args.side 1 x =
     λ x. c.partners-replies.ensures x
-    ∙ replies-are g p c.args.side v c.requires.attacking c.requires.far c.requires.attack x in
+    ∙ replies-are g p c.args.side c.args.depth c.requires.searches v c.requires.attack x in
     subst (λ (x : Position). is_free x c.in-Some.u ≡ true) (sym c.play.ensures.position)
-    (reply-free g (after g p v) c.args.side c.requires.single c.requires.answering
+    (reply-free g (after g p v) c.args.side c.requires.searches.single c.requires.answering
     c.partners-replies.result are c.in-Some.u c.in-Some.ensures.found.member).1
 
 pub answered-first_of_depth-found-requires : goal.answered-first_of_depth-found-requires
@@ -135,18 +146,27 @@ answered-first_of_depth-found-requires t c =
     let are : (x : ℕ)
     → contains c.partners-replies.result x ≡ is_lacking g (after g p c.args.v) c.args.side 1 x =
     λ x. c.partners-replies.ensures x
-    ∙ replies-are g p c.args.side c.args.v c.requires.attacking c.requires.far c.requires.attack
-    x in
+    ∙ replies-are g p c.args.side c.args.depth c.requires.searches c.args.v c.requires.attack x in
     let least = c.in-Some.ensures.found in
     let member = least.member in
     let all = c.attacks_at-attacks.result.all in
     let forks = c.attacks_at-attacks.result.forks in
-    let deeper : 2 ≤ c.args.depth = omega arith in
-    let some : 1 ≤ c.args.depth - 1 = omega arith in
-    let attacking = reply-attacking g q c.args.side c.requires.single c.requires.answering
+    let deeper : 2 ≤ c.args.depth =
+    omega (arith, c.requires.searches.some, c.if-depth-eq1.false) in
+    let some : 1 ≤ c.args.depth - 1 = omega (arith, deeper) in
+    let attacking = reply-attacking g q c.args.side c.requires.searches.single c.requires.answering
     c.partners-replies.result are u member in
-    let none = reply-least g q c.args.side c.requires.single c.requires.answering
-    c.partners-replies.result are u least c.args.depth deeper c.requires.least in
+    let none = reply-least g q c.args.side c.requires.searches.single c.requires.answering
+    c.partners-replies.result are u least c.args.depth deeper
+    (attack-least g p c.args.side c.args.depth c.requires.searches c.args.v c.requires.attack
+    c.requires.answering) in
+    let searches : SearchesAt g (after g q u) c.args.side (c.args.depth - 1) = record {
+      attacking = attacking;
+      single = c.requires.searches.single;
+      least = none;
+      some = some;
+      few = omega (arith, deeper, c.requires.searches.few);
+    } in
     let played = two-played c.args.b.now c.play.new.self c.play-2.new.self c.args.v u
     c.play.ensures.game c.play.ensures.position c.play-2.ensures.game c.play-2.ensures.position in
     let at = λ (P : Game → Position → Type 0) (h : P g (after g q u)). at_same P g
@@ -160,26 +180,16 @@ answered-first_of_depth-found-requires t c =
     let twice = from (λ h x. (v : ℕ) → contains all v ≡ true
     → IsLackedTwice h x c.args.side 2 (length (lines_of h)) v
     → contains forks v ≡ true) c.attacks_at-attacks.ensures.twice in (
-      omega (arith, c.decreases),
+      omega (arith, c.decreases, deeper),
       (
-        at (λ h x. IsAttacking h x c.args.side) attacking,
+        at (λ h x. SearchesAt h x c.args.side (c.args.depth - 1)) searches,
         (
-          at (λ h x. h.bias ≡ 1) c.requires.single,
-          (
-            tried-depth c.play-2.new.self.game c.play-2.new.self.stand.position c.args.side
-                (c.args.depth - 1) all forks c.of_depth.result.now c.of_depth.ensures
-                c.attacks_at-attacks.ensures.all c.attacks_at-attacks.ensures.forks,
-            (
-              at (λ h x. Begins h x c.args.side (c.args.depth - 1) c.of_depth.result.now)
-                  (begins-depth g (after g q u) c.args.side c.requires.single attacking
-                  (c.args.depth - 1) some none all forks c.of_depth.result.now c.of_depth.ensures
-                  tried twice),
-              (
-                at (λ h x. NoneBelow (LeadsToLine h x c.args.side) (c.args.depth - 1)) none,
-                (some, omega arith),
-              ),
-            ),
-          ),
+          tried-depth c.play-2.new.self.game c.play-2.new.self.stand.position c.args.side
+              (c.args.depth - 1) all forks c.of_depth.result.now c.of_depth.ensures
+              c.attacks_at-attacks.ensures.all c.attacks_at-attacks.ensures.forks,
+          at (λ h x. Begins h x c.args.side (c.args.depth - 1) c.of_depth.result.now)
+              (begins-depth g (after g q u) c.args.side (c.args.depth - 1) searches all forks
+              c.of_depth.result.now c.of_depth.ensures tried twice),
         ),
       ),
     )
@@ -193,18 +203,20 @@ answered-returns-in-Some-found-clause-found t c =
     let are : (x : ℕ)
     → contains c.partners-replies.result x ≡ is_lacking g (after g p c.args.v) c.args.side 1 x =
     λ x. c.partners-replies.ensures x
-    ∙ replies-are g p c.args.side c.args.v c.requires.attacking c.requires.far c.requires.attack
-    x in
-    let deeper : 2 ≤ c.args.depth = omega arith in
+    ∙ replies-are g p c.args.side c.args.depth c.requires.searches c.args.v c.requires.attack x in
+    let deeper : 2 ≤ c.args.depth =
+    omega (arith, c.requires.searches.some, c.if-depth-eq1.false) in
     let played = two-played c.args.b.now c.play.new.self c.play-2.new.self c.args.v u
     c.play.ensures.game c.play.ensures.position c.play-2.ensures.game c.play-2.ensures.position in
-    reply-found g q c.args.side c.requires.single c.requires.answering c.partners-replies.result are
-    u c.in-Some.ensures.found c.args.depth deeper c.requires.least c.in-Some-found.line
-    c.behind-in-Some-found.result
+    reply-found g q c.args.side c.requires.searches.single c.requires.answering
+    c.partners-replies.result are u c.in-Some.ensures.found c.args.depth deeper
+    (attack-least g p c.args.side c.args.depth c.requires.searches c.args.v c.requires.attack
+    c.requires.answering) c.in-Some-found.line c.behind-in-Some-found.result
     (at_same
     (λ h x. IsFound (LeadsToLine h x c.args.side) (c.args.depth - 1) (Some c.in-Some-found.line))
     c.play-2.new.self.game g c.play-2.new.self.stand.position (after g q u) (sym played.0)
     (sym played.1) c.in-Some-found.ensures.found) c.behind-in-Some-found.ensures.points
+    c.behind-in-Some-found.ensures.len
 
 pub answered-returns-in-None-found-clause-found : goal.answered-returns-in-None-found-clause-found
 answered-returns-in-None-found-clause-found t c =
@@ -215,13 +227,15 @@ answered-returns-in-None-found-clause-found t c =
     let are : (x : ℕ)
     → contains c.partners-replies.result x ≡ is_lacking g (after g p c.args.v) c.args.side 1 x =
     λ x. c.partners-replies.ensures x
-    ∙ replies-are g p c.args.side c.args.v c.requires.attacking c.requires.far c.requires.attack
-    x in
-    let deeper : 2 ≤ c.args.depth = omega arith in
+    ∙ replies-are g p c.args.side c.args.depth c.requires.searches c.args.v c.requires.attack x in
+    let deeper : 2 ≤ c.args.depth =
+    omega (arith, c.requires.searches.some, c.if-depth-eq1.false) in
     let played = two-played c.args.b.now c.play.new.self c.play-2.new.self c.args.v u
     c.play.ensures.game c.play.ensures.position c.play-2.ensures.game c.play-2.ensures.position in
-    reply-fails g q c.args.side c.requires.single c.requires.answering c.partners-replies.result are
-    u c.in-Some.ensures.found c.args.depth deeper c.requires.least
+    reply-fails g q c.args.side c.requires.searches.single c.requires.answering
+    c.partners-replies.result are u c.in-Some.ensures.found c.args.depth deeper
+    (attack-least g p c.args.side c.args.depth c.requires.searches c.args.v c.requires.attack
+    c.requires.answering)
     (at_same (λ h x. IsFound (LeadsToLine h x c.args.side) (c.args.depth - 1) None)
     c.play-2.new.self.game g c.play-2.new.self.stand.position (after g q u) (sym played.0)
     (sym played.1) c.in-None-found.ensures.found)
@@ -231,9 +245,9 @@ answered-returns-in-None-found-clause-found t c =
 pub first_of_depth-loop-next-init : goal.first_of_depth-loop-next-init
 first_of_depth-loop-next-init t c = (
   refl,
-  search-next c.args.b.now.game c.args.b.now.stand.position c.args.side c.requires.attacking
-      c.args.depth c.requires.some c.requires.least c.args.attacks.now c.requires.tried
-      c.requires.begins 0 c.first_from-next.result
+  search-next c.args.b.now.game c.args.b.now.stand.position c.args.side c.args.depth
+      c.requires.searches c.args.attacks.now c.requires.tried c.requires.begins 0
+      c.first_from-next.result
       (λ w points below deep leads. absurd (omega arith)) c.first_from-next.ensures.found
       c.first_from-next.ensures.range c.first_from-next.ensures.none,
 )
@@ -248,39 +262,14 @@ first_of_depth-answered-requires t c =
     λ (P : View → Type 0) (h : P c.args.b.now). subst P (sym c.loop-next.invariant.0) h in (
       omega (arith, c.decreases),
       (
-        at (λ b. IsAttacking b.game b.stand.position c.args.side) c.requires.attacking,
+        at (λ b. SearchesAt b.game b.stand.position c.args.side c.args.depth) c.requires.searches,
         (
-          at (λ b. (u : ℕ) → is_lacking b.game b.stand.position c.args.side 1 u ≡ false)
-              (far-lacked g p c.args.side c.requires.attacking c.args.depth c.requires.some
-              c.requires.least),
-          (
-            at (λ b. IsAttack b.game b.stand.position v)
-                (attack-free g p c.args.side c.requires.attacking c.args.depth c.requires.some
-                c.requires.least c.args.attacks.now c.requires.tried c.requires.begins v member),
-            (
-              at (λ b. IsAnswering b.game (after b.game b.stand.position v) c.args.side)
-                  (attack-answering g p c.args.side c.requires.attacking c.args.depth
-                  c.requires.some c.requires.least c.args.attacks.now c.requires.tried
-                  c.requires.begins c.requires.single v member),
-              (
-                at (λ b. b.game.bias ≡ 1) c.requires.single,
-                (
-                  at
-                      (λ b. NoneBelow (Replied b.game (after b.game b.stand.position v) c.args.side)
-                      c.args.depth)
-                      (attack-least g p c.args.side c.requires.attacking c.args.depth
-                      c.requires.some c.requires.least c.args.attacks.now c.requires.tried
-                      c.requires.begins c.requires.single v member),
-                  (
-                    at
-                        (λ b. NoneBelow (LeadsToLine b.game b.stand.position c.args.side)
-                        c.args.depth) c.requires.least,
-                    (c.requires.some, c.requires.few),
-                  ),
-                ),
-              ),
-            ),
-          ),
+          at (λ b. IsAttack b.game b.stand.position v)
+              (attack-free g p c.args.side c.args.depth c.requires.searches c.args.attacks.now
+              c.requires.tried c.requires.begins v member),
+          at (λ b. IsAnswering b.game (after b.game b.stand.position v) c.args.side)
+              (attack-answering g p c.args.side c.args.depth c.requires.searches
+              c.args.attacks.now c.requires.tried c.requires.begins v member),
         ),
       ),
     )
@@ -292,13 +281,13 @@ first_of_depth-returns-in-Some-answered-clause-found t c =
     let searching = subst
     (λ (b : View). IsSearching b.game b.stand.position c.args.side c.args.depth c.args.attacks.now
     c.loop-next.next) c.loop-next.invariant.0 c.loop-next.invariant.1 in
-    attack-found c.args.b.now.game c.args.b.now.stand.position c.args.side c.requires.attacking
-    c.args.depth c.requires.some c.requires.least c.args.attacks.now c.requires.tried
-    c.requires.begins c.requires.single v (searching.tried v c.in-Some.is).0 c.loop-next.next
+    attack-found c.args.b.now.game c.args.b.now.stand.position c.args.side c.args.depth
+    c.requires.searches c.args.attacks.now c.requires.tried c.requires.begins v
+    (searching.tried v c.in-Some.is).0 c.loop-next.next
     c.in-Some-answered.line c.behind.result c.in-Some.is searching
     (subst (λ (b : View). IsFound (Replied b.game (after b.game b.stand.position v) c.args.side)
     c.args.depth (Some c.in-Some-answered.line)) c.loop-next.invariant.0
-    c.in-Some-answered.ensures.found) c.behind.ensures.points
+    c.in-Some-answered.ensures.found) c.behind.ensures.points c.behind.ensures.len
 
 pub first_of_depth-overflow_add-v : goal.first_of_depth-overflow_add-v
 first_of_depth-overflow_add-v t c =
@@ -326,13 +315,11 @@ first_of_depth-loop-next-preserved t c =
       subst
           (λ (b : View). IsSearching b.game b.stand.position c.args.side c.args.depth
           c.args.attacks.now next) (sym back)
-          (search-next c.args.b.now.game c.args.b.now.stand.position c.args.side
-          c.requires.attacking c.args.depth c.requires.some c.requires.least c.args.attacks.now
-          c.requires.tried c.requires.begins (v + 1) next
-          (attack-fails c.args.b.now.game c.args.b.now.stand.position c.args.side
-          c.requires.attacking c.args.depth c.requires.some c.requires.least c.args.attacks.now
-          c.requires.tried c.requires.begins c.requires.single v member c.loop-next.next
-          c.in-Some.is searching fails) c.first_from-next-in-Some.ensures.found
+          (search-next c.args.b.now.game c.args.b.now.stand.position c.args.side c.args.depth
+          c.requires.searches c.args.attacks.now c.requires.tried c.requires.begins (v + 1) next
+          (attack-fails c.args.b.now.game c.args.b.now.stand.position c.args.side c.args.depth
+          c.requires.searches c.args.attacks.now c.requires.tried c.requires.begins v member
+          c.loop-next.next c.in-Some.is searching fails) c.first_from-next-in-Some.ensures.found
           c.first_from-next-in-Some.ensures.range c.first_from-next-in-Some.ensures.none),
     )
 
@@ -341,9 +328,9 @@ first_of_depth-returns-clause-found t c =
     let searching = subst
     (λ (b : View). IsSearching b.game b.stand.position c.args.side c.args.depth c.args.attacks.now
     c.loop-next.next) c.loop-next.invariant.0 c.loop-next.invariant.1 in
-    search-over c.args.b.now.game c.args.b.now.stand.position c.args.side c.requires.attacking
-    c.args.depth c.requires.some c.requires.least c.args.attacks.now c.requires.tried
-    c.requires.begins (rw c.in_default.is at searching)
+    search-over c.args.b.now.game c.args.b.now.stand.position c.args.side c.args.depth
+    c.requires.searches c.args.attacks.now c.requires.tried c.requires.begins
+    (rw c.in_default.is at searching)
 
 -- ---- the board afterwards
 

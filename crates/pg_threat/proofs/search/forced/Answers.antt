@@ -1,8 +1,7 @@
 use Rattle.std.proofs.Common.{Some, None, refl, sym, ◌∙◌, subst, arith}
-use Rattle.pg_threat.proofs.Common.{LeadsToLine, IsAttacking, View}
-use Rattle.pg_threat.specs.Search.{Begins, IsFound, NoneBelow}
-use Rattle.pg_threat.proofs.Searching.{forced-far, begins-depth, forced-attacking, forced-none}
-use Rattle.pg_threat.proofs.Searching.{forced-near, forced-found, forced-deeper, next-depth}
+use Rattle.pg_threat.proofs.Common.{LeadsToLine, View}
+use Rattle.pg_threat.specs.Search.{Begins, IsFound, SearchesAt}
+use Rattle.pg_threat.proofs.Searching.{forced-far, begins-depth, forced-searches, forced-none, forced-near, forced-found, forced-deeper, next-depth}
 use Rattle.pg_threat.proofs.search.forced.Goals as goal
 
 pub returns-then-is_far-clause-answer : goal.returns-then-is_far-clause-answer
@@ -25,16 +24,14 @@ loop-least-init c = (
       c.lacking.result.points c.lacking.ensures.points c.in_default.ensures.none,
 )
 
-pub first_of_depth-requires-clause-attacking : goal.first_of_depth-requires-clause-attacking
-first_of_depth-requires-clause-attacking c = subst
-    (λ (b : View). IsAttacking b.game b.stand.position c.args.side) (sym c.loop-least.invariant.0)
-    (forced-attacking c.args.b.now.game c.args.b.now.stand.position c.args.side c.requires.single
-    c.requires.may c.attacks_at-attacks.ensures.fits c.requires.going c.requires.turn)
-
-pub first_of_depth-requires-clause-least : goal.first_of_depth-requires-clause-least
-first_of_depth-requires-clause-least c = subst
-    (λ (b : View). NoneBelow (LeadsToLine b.game b.stand.position c.args.side) c.loop-least.least)
-    (sym c.loop-least.invariant.0) c.loop-least.invariant.2
+pub first_of_depth-requires-clause-searches : goal.first_of_depth-requires-clause-searches
+first_of_depth-requires-clause-searches c = subst
+    (λ (b : View). SearchesAt b.game b.stand.position c.args.side c.loop-least.least)
+    (sym c.loop-least.invariant.0)
+    (forced-searches c.args.b.now.game c.args.b.now.stand.position c.args.side c.requires.single
+    c.requires.may c.attacks_at-attacks.ensures.fits c.requires.going c.requires.turn
+    c.loop-least.least c.loop-least.invariant.2 c.loop-least.invariant.1
+    (omega (arith, c.loop-least-test.true, c.requires.few)))
 
 pub returns-in-Some-first_of_depth-clause-answer : goal.returns-in-Some-first_of_depth-clause-answer
 returns-in-Some-first_of_depth-clause-answer c =
@@ -45,7 +42,7 @@ returns-in-Some-first_of_depth-clause-answer c =
     forced-found c.args.b.now.game c.args.b.now.stand.position c.args.side c.requires.single
     c.requires.may c.attacks_at-attacks.ensures.fits c.requires.going c.requires.turn c.args.depth
     c.loop-least.least c.in-Some-first_of_depth.line (omega (arith, c.loop-least-test.true))
-    c.in-Some-first_of_depth.ensures.len c.loop-least.invariant.2 found
+    c.loop-least.invariant.2 found
 
 pub loop-least-preserved : goal.loop-least-preserved
 loop-least-preserved c =
@@ -61,14 +58,15 @@ pub first_of_depth-requires-clause-begins : goal.first_of_depth-requires-clause-
 first_of_depth-requires-clause-begins c =
     let g = c.args.b.now.game in
     let p = c.args.b.now.stand.position in
-    let attacking = forced-attacking g p c.args.side c.requires.single c.requires.may
-    c.attacks_at-attacks.ensures.fits c.requires.going c.requires.turn in
+    let searches = forced-searches g p c.args.side c.requires.single c.requires.may
+    c.attacks_at-attacks.ensures.fits c.requires.going c.requires.turn c.loop-least.least
+    c.loop-least.invariant.2 c.loop-least.invariant.1
+    (omega (arith, c.loop-least-test.true, c.requires.few)) in
     let found = c.attacks_at-attacks in
     subst
     (λ (b : View). Begins b.game b.stand.position c.args.side c.loop-least.least
     c.of_depth.result.now) (sym c.loop-least.invariant.0)
-    (begins-depth g p c.args.side c.requires.single attacking c.loop-least.least
-    c.loop-least.invariant.1 c.loop-least.invariant.2 found.result.all found.result.forks
+    (begins-depth g p c.args.side c.loop-least.least searches found.result.all found.result.forks
     c.of_depth.result.now c.of_depth.ensures found.ensures.all found.ensures.twice)
 
 pub returns-in_default-first_from-clause-answer : goal.returns-in_default-first_from-clause-answer
