@@ -1,6 +1,8 @@
 -- A cache of what matching answered, for one list of lines.
-use Rattle.std.specs.Prelude.{◌≡◌, ℕ, ◌+◌, ◌-◌, ◌^◌, ◌≤◌, Bool, true, false, ◌&&◌, List, ◌∷◌, ◌++◌, length, min, take}
-use Rattle.pg_match.specs.Prelude.{All, Any, FinSet, nat_cmp, IsEquivalence, IsPartialEquivalence, decided, partial_equiv_from_equiv}
+use Rattle.std.specs.Prelude.{◌≡◌, ℕ, ◌+◌, ◌-◌, ◌^◌, ◌≤◌, Bool, true, false, ◌&&◌, List, ◌∷◌, ◌++◌}
+use Rattle.std.specs.Prelude.{length, min, take}
+use Rattle.pg_match.specs.Prelude.{All, Any, FinSet, nat_cmp, IsEquivalence, IsPartialEquivalence}
+use Rattle.pg_match.specs.Prelude.{decided, partial_equiv_from_equiv}
 use Rattle.std.specs.Str.{bytes_eq}
 use Rattle.std.specs.Bool.{Decides}
 use Rattle.std.proofs.Common.{sym, ap, ◌∙◌}

@@ -1,5 +1,30 @@
 -- What the proofs of this crate name of std and of the crates below.
-pub use Rattle.pg_player.specs.Prelude.{All, Answered, AreBelow, AreCuts, AreFreeWithE, AreTrees, AvoiderEnforcer, AvoiderHolds, Body, Cert, Claim, Coded-set, Cuts, CutsHold, CutsHoldOn, EndsRight, Field, FinSet, FollowMoves, FollowsMove, Forces, Game, Goal, HasCuts, HasJoiner, HasPairs, HasPotential, HasThreat, HasTrees, HasTurn, HasWeaker, HeldBefore, HeldUntil, HoldsPair, IsAttack, IsAttacking, IsClaim, IsCutsAnswer, IsFreeEdge, IsInGame, IsLegalPlay, IsMadeForGame, IsNoWorse, IsNoWorseThanNode, IsNodeOf, IsOwed, IsPosition, IsSound, IsSwitchingTurn, IsThreatLine, IsTreesAnswer, IsValid, IsValidClaim, IsWithinLimits, Kind, LeadsToLine, LeavesHeld, Lines, MakerBreaker, MakerMaker, MayClaim, Move, NamesEarlier, Node, Over, Pair, Pairs, PairsHold, Passes, Position, Potential, PotentialFits, PotentialHolds, Reply, RestHolds, Room, Score, Side, Standing, Switching, TakesFree, Threat, Trees, TreesHold, TreesHoldOn, Weaker, Win, X, Y, after, arrives, avoider_answer, bias_of, coded_bool, coded_list, coded_ℕ, contains, cuts_point, free_or_lowest, free_points, is_allowed, is_free, is_full, is_over, is_same_side, judged_move, list_any, may_attack, nat_cmp, option_or, other, outcome, pairs_answer, pairs_fit, played, point_count, position_of, potential_answer, potential_point, reaches, replied_by, rest, settles_at, settles_by, shows_cuts, shows_defence, shows_trees, start, stays, stays_with_cuts, stays_with_trees, trees_point, with_e_named, with_set, with_turn}
+pub use Rattle.pg_player.specs.Prelude.{All, Answered, AreBelow, AreCuts, AreFreeWithE, AreTrees}
+pub use Rattle.pg_player.specs.Prelude.{AvoiderEnforcer, AvoiderHolds, Body, Cert, Claim, Coded-set}
+pub use Rattle.pg_player.specs.Prelude.{Cuts, CutsHold, CutsHoldOn, EndsRight, Field, FinSet}
+pub use Rattle.pg_player.specs.Prelude.{FollowMoves, FollowsMove, Forces, Game, Goal, HasCuts}
+pub use Rattle.pg_player.specs.Prelude.{HasJoiner, HasPairs, HasPotential, HasThreat, HasTrees}
+pub use Rattle.pg_player.specs.Prelude.{HasTurn, HasWeaker, HeldBefore, HeldUntil, HoldsPair}
+pub use Rattle.pg_player.specs.Prelude.{IsAttack, IsAttacking, IsClaim, IsCutsAnswer, IsFreeEdge}
+pub use Rattle.pg_player.specs.Prelude.{IsInGame, IsLegalPlay, IsMadeForGame, IsNoWorse}
+pub use Rattle.pg_player.specs.Prelude.{IsNoWorseThanNode, IsNodeOf, IsOwed, IsPosition, IsSound}
+pub use Rattle.pg_player.specs.Prelude.{IsSwitchingTurn, IsThreatLine, IsTreesAnswer, IsValid}
+pub use Rattle.pg_player.specs.Prelude.{IsValidClaim, IsWithinLimits, Kind, LeadsToLine, LeavesHeld}
+pub use Rattle.pg_player.specs.Prelude.{Lines, MakerBreaker, MakerMaker, MayClaim, Move}
+pub use Rattle.pg_player.specs.Prelude.{NamesEarlier, Node, Over, Pair, Pairs, PairsHold, Passes}
+pub use Rattle.pg_player.specs.Prelude.{Position, Potential, PotentialFits, PotentialHolds, Reply}
+pub use Rattle.pg_player.specs.Prelude.{RestHolds, Room, Score, Side, Standing, Switching}
+pub use Rattle.pg_player.specs.Prelude.{TakesFree, Threat, Trees, TreesHold, TreesHoldOn, Weaker}
+pub use Rattle.pg_player.specs.Prelude.{Win, X, Y, after, arrives, avoider_answer, bias_of}
+pub use Rattle.pg_player.specs.Prelude.{coded_bool, coded_list, coded_ℕ, contains, cuts_point}
+pub use Rattle.pg_player.specs.Prelude.{free_or_lowest, free_points, is_allowed, is_free, is_full}
+pub use Rattle.pg_player.specs.Prelude.{is_over, is_same_side, judged_move, list_any, may_attack}
+pub use Rattle.pg_player.specs.Prelude.{nat_cmp, option_or, other, outcome, pairs_answer, pairs_fit}
+pub use Rattle.pg_player.specs.Prelude.{played, point_count, position_of, potential_answer}
+pub use Rattle.pg_player.specs.Prelude.{potential_point, reaches, replied_by, rest, settles_at}
+pub use Rattle.pg_player.specs.Prelude.{settles_by, shows_cuts, shows_defence, shows_trees, start}
+pub use Rattle.pg_player.specs.Prelude.{stays, stays_with_cuts, stays_with_trees, trees_point}
+pub use Rattle.pg_player.specs.Prelude.{with_e_named, with_set, with_turn}
 unfoldable pub use Rattle.pg_player.specs.Prelude.{own_move, replied, settled_within}
 pub use Rattle.pg_avoider.proofs.AvoiderLaws.{Forces-avoider, kept-y}
 pub use Rattle.pg_check.proofs.ForcedNodes.{Forces-node, breaker_at, node_limits, pairs_at}

@@ -1,6 +1,24 @@
 -- What an own move keeps, body by body.
-use Rattle.std.proofs.Common.{◌≡◌, ◌≢◌, ◌∙◌, ℕ, ◌<◌, Bool, true, false, ◌&&◌, ◌==◌, ◌+◌, suc, List, [], ◌∷◌, drop, get_or, length, arith, Option, Some, None, refl, sym, ap, subst, subst₂, inl, inr, ◌⊎◌, eqb-true}
-use Rattle.pg_player.proofs.Common.{cases_Bool, cases_lt, and_parts, false≢true, FinSet, nat_cmp, other, Goal, Win, Kind, MakerBreaker, MakerMaker, AvoiderEnforcer, Switching, Pair, Side, X, Y, Field, Lines, Game, Position, is_free, point_count, is_over, outcome, after, IsPosition, reaches, Forces, pairs_answer, PotentialHolds, potential_answer, AvoiderHolds, avoider_answer, may_attack, LeadsToLine, IsAttack, IsAttacking, unfilled-going, over-filling, Forces-attacked, Answered, TreesHold, CutsHold, turn-after_x, IsPosition-after, Forces-over, Forces-all, Forces-any, rest, RestHolds, MayClaim, HeldBefore, Forces-potential_breaker, Forces-potential_draw, Forces-avoider, IsSwitchingTurn, HeldUntil, LeavesHeld, IsTreesAnswer, IsCutsAnswer, Claim, Body, Move, Pairs, Potential, Trees, Cuts, Threat, Standing, own_move, arrives, stays, potential_point, trees_point, cuts_point, stays_with_trees, stays_with_cuts, is_allowed, shows_defence, shows_trees, shows_cuts, pairs_fit, PotentialFits, with_e_named, pairs_at}
+use Rattle.std.proofs.Common.{◌≡◌, ◌≢◌, ◌∙◌, ℕ, ◌<◌, Bool, true, false, ◌&&◌, ◌==◌, ◌+◌, suc, List}
+use Rattle.std.proofs.Common.{[], ◌∷◌, drop, get_or, length, arith, Option, Some, None, refl, sym}
+use Rattle.std.proofs.Common.{ap, subst, subst₂, inl, inr, ◌⊎◌, eqb-true}
+use Rattle.pg_player.proofs.Common.{cases_Bool, cases_lt, and_parts, false≢true, FinSet, nat_cmp}
+use Rattle.pg_player.proofs.Common.{other, Goal, Win, Kind, MakerBreaker, MakerMaker}
+use Rattle.pg_player.proofs.Common.{AvoiderEnforcer, Switching, Pair, Side, X, Y, Field, Lines}
+use Rattle.pg_player.proofs.Common.{Game, Position, is_free, point_count, is_over, outcome, after}
+use Rattle.pg_player.proofs.Common.{IsPosition, reaches, Forces, pairs_answer, PotentialHolds}
+use Rattle.pg_player.proofs.Common.{potential_answer, AvoiderHolds, avoider_answer, may_attack}
+use Rattle.pg_player.proofs.Common.{LeadsToLine, IsAttack, IsAttacking, unfilled-going}
+use Rattle.pg_player.proofs.Common.{over-filling, Forces-attacked, Answered, TreesHold, CutsHold}
+use Rattle.pg_player.proofs.Common.{turn-after_x, IsPosition-after, Forces-over, Forces-all}
+use Rattle.pg_player.proofs.Common.{Forces-any, rest, RestHolds, MayClaim, HeldBefore}
+use Rattle.pg_player.proofs.Common.{Forces-potential_breaker, Forces-potential_draw, Forces-avoider}
+use Rattle.pg_player.proofs.Common.{IsSwitchingTurn, HeldUntil, LeavesHeld, IsTreesAnswer}
+use Rattle.pg_player.proofs.Common.{IsCutsAnswer, Claim, Body, Move, Pairs, Potential, Trees, Cuts}
+use Rattle.pg_player.proofs.Common.{Threat, Standing, own_move, arrives, stays, potential_point}
+use Rattle.pg_player.proofs.Common.{trees_point, cuts_point, stays_with_trees, stays_with_cuts}
+use Rattle.pg_player.proofs.Common.{is_allowed, shows_defence, shows_trees, shows_cuts, pairs_fit}
+use Rattle.pg_player.proofs.Common.{PotentialFits, with_e_named, pairs_at}
 use Rattle.std.proofs.lemmas.List.{drop_all}
 use Rattle.std.proofs.Math.Seq.{drop-cons}
 use Rattle.pg_base.specs.declared.goal.Goal.TheVariants.{Draw as AtLeastDraw}

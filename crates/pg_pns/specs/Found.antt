@@ -1,6 +1,10 @@
 -- What a search may answer, and what it leaves in the work at every answer.
-use Rattle.std.specs.Prelude.{◌≡◌, ℕ, suc, ◌<◌, ◌≤◌, ◌+◌, ◌*◌, Bool, true, false, List, length, Some, slice_get, ◌⊎◌}
-use Rattle.pg_pns.specs.Prelude.{Contains, Position, Node, Game, Score, start, free_points, IsClaim, IsOfVersion, IsValidClaim, criterion_of, first_criterion, position_of, Claim, One, claimer, claimed_goal, IsOpenTable, IsUsed}
+use Rattle.std.specs.Prelude.{◌≡◌, ℕ, suc, ◌<◌, ◌≤◌, ◌+◌, ◌*◌, Bool, true, false, List, length}
+use Rattle.std.specs.Prelude.{Some, slice_get, ◌⊎◌}
+use Rattle.pg_pns.specs.Prelude.{Contains, Position, Node, Game, Score, start, free_points, IsClaim}
+use Rattle.pg_pns.specs.Prelude.{IsOfVersion, IsValidClaim, criterion_of, first_criterion}
+use Rattle.pg_pns.specs.Prelude.{position_of, Claim, One, claimer, claimed_goal, IsOpenTable}
+use Rattle.pg_pns.specs.Prelude.{IsUsed}
 use Rattle.pg_pns.specs.declared.work.Found.{Found}
 use Rattle.pg_pns.specs.declared.work.Found.TheVariants.{Yes, No, Unknown}
 use Rattle.pg_pns.specs.Expanded.{Expanded}

@@ -1,6 +1,8 @@
 -- What a search is asked, and what it reads the answers of criteria from.
 use Rattle.std.specs.Prelude.{◌≡◌, ◌≢◌, ◌<◌, ◌≤◌, ◌*◌, ℕ, length, true}
-use Rattle.pg_pns.specs.Prelude.{Cache, Fits, Game, IsAt, IsPosition, IsQuestion, MAX_CLAIM_NODES, Position, Score, Switching, View, free_points, is_free, lines_of, point_count, start}
+use Rattle.pg_pns.specs.Prelude.{Cache, Fits, Game, IsAt, IsPosition, IsQuestion, MAX_CLAIM_NODES}
+use Rattle.pg_pns.specs.Prelude.{Position, Score, Switching, View, free_points, is_free, lines_of}
+use Rattle.pg_pns.specs.Prelude.{point_count, start}
 use Rattle.pg_pns.specs.declared.limits.TheConstants.{MAX_EXPANDED_MOVES}
 use Rattle.pg_pns.specs.Descent.{IsAtStart}
 

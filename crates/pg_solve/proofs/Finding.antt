@@ -1,6 +1,11 @@
 -- What is found by questions and by classes, as the clauses of solving say it.
-use Rattle.std.proofs.Common.{◌≡◌, ◌∙◌, ℕ, zero, suc, ◌<◌, ◌≤◌, true, false, List, [], ◌∷◌, Some, length, map, refl, sym, ap, subst, subst₂, arith, slice_get, IfSome}
-use Rattle.pg_solve.proofs.Common.{none-some, All, Goal, Win, Kind, MakerBreaker, MakerMaker, AvoiderEnforcer, Switching, Score, XWins, Draw, YWins, Side, X, Y, IsClaim, IsOfVersion, IsWithinLimits, node_count, IsValid, IsValidClaim, Cert, Claim, One, claimed_goal, is_switching, IsTable, IsOpenTable, IsWorkOf, Game, Position, Expanded}
+use Rattle.std.proofs.Common.{◌≡◌, ◌∙◌, ℕ, zero, suc, ◌<◌, ◌≤◌, true, false, List, [], ◌∷◌, Some}
+use Rattle.std.proofs.Common.{length, map, refl, sym, ap, subst, subst₂, arith, slice_get, IfSome}
+use Rattle.pg_solve.proofs.Common.{none-some, All, Goal, Win, Kind, MakerBreaker, MakerMaker}
+use Rattle.pg_solve.proofs.Common.{AvoiderEnforcer, Switching, Score, XWins, Draw, YWins, Side, X}
+use Rattle.pg_solve.proofs.Common.{Y, IsClaim, IsOfVersion, IsWithinLimits, node_count, IsValid}
+use Rattle.pg_solve.proofs.Common.{IsValidClaim, Cert, Claim, One, claimed_goal, is_switching}
+use Rattle.pg_solve.proofs.Common.{IsTable, IsOpenTable, IsWorkOf, Game, Position, Expanded}
 use Rattle.pg_base.specs.declared.goal.Goal.TheVariants.{Draw as AtLeastDraw}
 use Rattle.pg_cert.specs.declared.cert.Version.{Version}
 use Rattle.pg_solve.proofs.Searching.{claims-value, denied-value, yes-win, no-win}

@@ -12,7 +12,8 @@ use Rattle.pg_threat.proofs.Common.{near-stays, near-filling, IsForced, attackin
 use Rattle.pg_threat.proofs.Common.{unfilled-going}
 use Rattle.pg_threat.specs.declared.line.ThreatLine.{ThreatLine}
 use Rattle.pg_threat.specs.Lacking.{is_lacking, is_partner, IsLackedTwice, come_to, left_to}
-use Rattle.pg_threat.specs.Search.{Begins, points_of_line, IsFirstOf, NoneBelow, IsFound, IsAnswering, Replied, IsTried, IsSearching, SearchesAt}
+use Rattle.pg_threat.specs.Search.{Begins, points_of_line, IsFirstOf, NoneBelow, IsFound}
+use Rattle.pg_threat.specs.Search.{IsAnswering, Replied, IsTried, IsSearching, SearchesAt}
 use Rattle.pg_threat.specs.Forced.{IsAnswer}
 use Rattle.pg_threat.proofs.LineCounts.{one-lacked, one-near, lacking-free}
 use Rattle.pg_threat.proofs.Partners.{partner-lacking}

@@ -1,5 +1,7 @@
 use Rattle.std.proofs.Common.{◌≡◌, ◌<◌, ℕ, true, sym, subst}
-use Rattle.pg_avoider.proofs.Common.{Contains, XWins, is_free, point_count, free_points, after, avoider_answer, outcome, AvoiderHolds, IsBaseOf-two, free-member}
+use Rattle.pg_avoider.proofs.Common.{Contains, XWins, is_free, point_count, free_points, after}
+use Rattle.pg_avoider.proofs.Common.{avoider_answer, outcome, AvoiderHolds, IsBaseOf-two}
+use Rattle.pg_avoider.proofs.Common.{free-member}
 use Rattle.pg_avoider.proofs.AvoiderLaws.{answer-is, answer-free, answer-wins, answer-keeps}
 use Rattle.pg_avoider.proofs.answers.answer.Goals as goal
 

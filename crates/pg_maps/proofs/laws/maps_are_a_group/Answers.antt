@@ -1,4 +1,5 @@
-use Rattle.pg_maps.proofs.Numbers.{followed-associative, identity-followed, followed-identity, followed-reverse, reverse-followed}
+use Rattle.pg_maps.proofs.Numbers.{followed-associative, identity-followed, followed-identity}
+use Rattle.pg_maps.proofs.Numbers.{followed-reverse, reverse-followed}
 use Rattle.pg_maps.proofs.Turning.{IsMapOf-followed, IsMapOf-reverse}
 use Rattle.pg_maps.proofs.laws.maps_are_a_group.Goals as goal
 

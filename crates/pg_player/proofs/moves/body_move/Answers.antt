@@ -6,7 +6,8 @@ use Rattle.pg_player.specs.declared.moves.Made.{Made}
 use Rattle.pg_player.proofs.Arriving.{Settles-node}
 use Rattle.pg_player.proofs.Going.{small}
 use Rattle.pg_player.proofs.Plays.{not-full}
-use Rattle.pg_player.proofs.Keeping.{keeps-move, keeps-pairs, trees-turn, cuts-turn, trees-held, cuts-held, trees-whole, cuts-whole}
+use Rattle.pg_player.proofs.Keeping.{keeps-move, keeps-pairs, trees-turn, cuts-turn, trees-held}
+use Rattle.pg_player.proofs.Keeping.{cuts-held, trees-whole, cuts-whole}
 use Rattle.pg_player.proofs.moves.body_move.Goals as goal
 
 pub answer-point-requires-clause-position : goal.answer-point-requires-clause-position

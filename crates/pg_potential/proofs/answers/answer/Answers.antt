@@ -1,5 +1,6 @@
 use Rattle.std.proofs.Common.{◌≡◌, ℕ, sym, ap, subst, ◌∙◌}
-use Rattle.pg_potential.proofs.Common.{Contains, Side, Y, free_points, after, PotentialHolds, potential_answer, member-free}
+use Rattle.pg_potential.proofs.Common.{Contains, Side, Y, free_points, after, PotentialHolds}
+use Rattle.pg_potential.proofs.Common.{potential_answer, member-free}
 use Rattle.pg_potential.proofs.GreatestWeight.{answer-is, answer-good}
 use Rattle.pg_potential.proofs.PotentialLaws.{kept-answer_breaker, kept-answer_draw}
 use Rattle.pg_potential.proofs.answers.answer.Goals as goal

@@ -1,10 +1,16 @@
 use Rattle.std.proofs.Common.{◌≡◌, ◌<◌, ◌≤◌, ◌+◌, ◌-◌, ◌∷◌, ℕ, true, false, Some, None, refl, sym}
 use Rattle.std.proofs.Common.{ap, ◌∙◌, subst, arith}
 use Rattle.std.specs.Prelude.{◌↔◌, length}
-use Rattle.pg_threat.proofs.Common.{contains, point_count, lines_of, after, is_free, IsAttack, LeadsToLine, Game, Position, point_count-le, View}
+use Rattle.pg_threat.proofs.Common.{contains, point_count, lines_of, after, is_free, IsAttack}
+use Rattle.pg_threat.proofs.Common.{LeadsToLine, Game, Position, point_count-le, View}
 use Rattle.pg_threat.specs.Lacking.{is_lacking, IsIdle, IsLackedTwice}
-use Rattle.pg_threat.specs.Search.{Begins, IsTried, IsFound, Replied, IsAnswering, IsSearching, SearchesAt}
-use Rattle.pg_threat.proofs.Searching.{replies-are, tried-depth, begins-depth, search-next, attack-free, attack-answering, attack-least, reply-attacking, reply-least, attack-fails, attack-found, attack-falls, search-over, reply-none, reply-one, reply-two, reply-free, reply-found, reply-fails, reply-barren}
+use Rattle.pg_threat.specs.Search.{Begins, IsTried, IsFound, Replied, IsAnswering, IsSearching}
+use Rattle.pg_threat.specs.Search.{SearchesAt}
+use Rattle.pg_threat.proofs.Searching.{replies-are, tried-depth, begins-depth, search-next}
+use Rattle.pg_threat.proofs.Searching.{attack-free, attack-answering, attack-least, reply-attacking}
+use Rattle.pg_threat.proofs.Searching.{reply-least, attack-fails, attack-found, attack-falls}
+use Rattle.pg_threat.proofs.Searching.{search-over, reply-none, reply-one, reply-two, reply-free}
+use Rattle.pg_threat.proofs.Searching.{reply-found, reply-fails, reply-barren}
 use Rattle.pg_threat.proofs.Idle.{reply-idle}
 use Rattle.pg_threat.proofs.Boards.{at_same, one-earlier, taken-back, two-played}
 use Rattle.pg_threat.proofs.search.+attacks_and_replies.Goals as goal

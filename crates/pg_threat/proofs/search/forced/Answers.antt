@@ -1,7 +1,8 @@
 use Rattle.std.proofs.Common.{Some, None, refl, sym, ◌∙◌, subst, arith}
 use Rattle.pg_threat.proofs.Common.{LeadsToLine, View}
 use Rattle.pg_threat.specs.Search.{Begins, IsFound, SearchesAt}
-use Rattle.pg_threat.proofs.Searching.{forced-far, begins-depth, forced-searches, forced-none, forced-near, forced-found, forced-deeper, next-depth}
+use Rattle.pg_threat.proofs.Searching.{forced-far, begins-depth, forced-searches, forced-none}
+use Rattle.pg_threat.proofs.Searching.{forced-near, forced-found, forced-deeper, next-depth}
 use Rattle.pg_threat.proofs.search.forced.Goals as goal
 
 pub returns-then-is_far-clause-answer : goal.returns-then-is_far-clause-answer
