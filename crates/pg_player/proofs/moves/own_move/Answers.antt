@@ -1,4 +1,4 @@
-use Rattle.std.proofs.Common.{[], sym, subst}
+use Rattle.std.proofs.Common.{[], false, sym, subst}
 use Rattle.pg_player.proofs.Common.{after, Threat}
 use Rattle.pg_player.specs.declared.moves.Made.{Made}
 use Rattle.pg_player.specs.declared.standing.Rest.{Rest}
