@@ -1,7 +1,7 @@
 -- The search, attack by attack and depth by depth.
 use Rattle.std.specs.Prelude.{◌↔◌, ◌==◌, if◌then◌else◌, Option, Some, None, IfSome, IfNone}
-use Rattle.std.proofs.Common.{◌≡◌, ◌≢◌, ℕ, ◌+◌, ◌-◌, ◌*◌, ◌<◌, ◌≤◌, true, false, List, [], ◌∷◌}
-use Rattle.std.proofs.Common.{length, refl, sym, ap, ◌∙◌, subst, inl, inr, arith, eqb-true}
+use Rattle.std.proofs.Common.{◌≡◌, ◌≢◌, ℕ, ◌+◌, ◌-◌, ◌<◌, ◌≤◌, true, false, List, [], ◌∷◌, length}
+use Rattle.std.proofs.Common.{refl, sym, ap, ◌∙◌, subst, inl, inr, arith, eqb-true}
 use Rattle.pg_threat.proofs.Common.{cases_Bool, cases_eq, cases_lt, false≢true, FinSet, contains}
 use Rattle.pg_threat.proofs.Common.{empty, contains-empty, nat_cmp, IsLeastFrom, ShareNone, Side}
 use Rattle.pg_threat.proofs.Common.{Game, Position, is_free, lines_of, point_count, after, is_over}
@@ -63,9 +63,12 @@ module _ (g : Game) (p : Position) (side : Side) (depth : ℕ)
   -- of the lines through it
   pub replies-are : (v : ℕ)
       → IsAttack g p v
-      → (u : ℕ) → is_partner g p side v u ≡ is_lacking g (after g p v) side 1 u
-  replies-are v at =
-      partner-lacking g side p searches.attacking.turn searches.attacking.position.disjoint far v at
+      → (replies : FinSet nat_cmp)
+      → ((u : ℕ) → contains replies u ≡ is_partner g p side v u)
+      → (u : ℕ) → contains replies u ≡ is_lacking g (after g p v) side 1 u
+  replies-are v at replies is u = is u
+      ∙ partner-lacking g side p searches.attacking.turn searches.attacking.position.disjoint far v
+      at u
 
   module _ (v : ℕ) (at : IsAttack g p v) (answering : IsAnswering g (after g p v) side) where
     leads-on : (points : List ℕ)
@@ -194,6 +197,14 @@ module _ (g : Game) (p : Position) (side : Side) (depth : ℕ)
         searching.none w points (omega (arith, at.range, point_count-le g)) deep leads
 
 -- ---- replies
+
+-- what goes on after an attack has room for the attack
+pub replied-short : (g : Game) (q : Position) (side : Side) (depth : ℕ) (t : ThreatLine)
+    → IsFound (Replied g q side) depth (Some t)
+    → depth ≤ 3
+    → t.len < 7
+replied-short g q side depth t h few =
+    omega (arith, few, h.whole, h.deep, replied-length g side (points_of_line t) q h.first.is)
 
 module _ (g : Game) (q : Position) (side : Side) (one : g.bias ≡ 1)
     (answering : IsAnswering g q side) where

@@ -1,5 +1,5 @@
-use Rattle.std.proofs.Common.{◌≡◌, ◌<◌, ◌≤◌, ◌+◌, ◌-◌, ◌∷◌, ℕ, true, false, Some, None, refl, sym}
-use Rattle.std.proofs.Common.{ap, ◌∙◌, subst, arith}
+use Rattle.std.proofs.Common.{◌≡◌, ◌<◌, ◌≤◌, ◌+◌, ◌-◌, ◌∷◌, ℕ, true, Some, None, refl, sym, ap, ◌∙◌}
+use Rattle.std.proofs.Common.{subst, arith}
 use Rattle.std.specs.Prelude.{◌↔◌, length}
 use Rattle.pg_threat.proofs.Common.{contains, point_count, lines_of, after, is_free, IsAttack}
 use Rattle.pg_threat.proofs.Common.{LeadsToLine, Game, Position, point_count-le, View}
@@ -10,7 +10,7 @@ use Rattle.pg_threat.proofs.Searching.{replies-are, tried-depth, begins-depth, s
 use Rattle.pg_threat.proofs.Searching.{attack-free, attack-answering, attack-least, reply-attacking}
 use Rattle.pg_threat.proofs.Searching.{reply-least, attack-fails, attack-found, attack-falls}
 use Rattle.pg_threat.proofs.Searching.{search-over, reply-none, reply-one, reply-two, reply-free}
-use Rattle.pg_threat.proofs.Searching.{reply-found, reply-fails, reply-barren}
+use Rattle.pg_threat.proofs.Searching.{reply-found, reply-fails, reply-barren, replied-short}
 use Rattle.pg_threat.proofs.Idle.{reply-idle}
 use Rattle.pg_threat.proofs.Boards.{at_same, one-earlier, taken-back, two-played}
 use Rattle.pg_threat.proofs.search.+attacks_and_replies.Goals as goal
@@ -27,12 +27,10 @@ answered-returns-in_default-clause-found t c =
     let g = c.args.b.now.game in
     let p = c.args.b.now.stand.position in
     let v = c.args.v in
-    let are : (x : ℕ)
-    → contains c.partners-replies.result x ≡ is_lacking g (after g p v) c.args.side 1 x =
-    λ x. c.partners-replies.ensures x
-    ∙ replies-are g p c.args.side c.args.depth c.requires.searches v c.requires.attack x in
     reply-none g (after g p v) c.args.side c.requires.searches.single c.requires.answering
-    c.partners-replies.result are c.args.depth c.in_default.ensures.none
+    c.partners-replies.result
+    (replies-are g p c.args.side c.args.depth c.requires.searches v c.requires.attack
+    c.partners-replies.result c.partners-replies.ensures) c.args.depth c.in_default.ensures.none
 
 pub answered-returns-in-Some-first_from-clause-found :
     goal.answered-returns-in-Some-first_from-clause-found
@@ -40,15 +38,13 @@ answered-returns-in-Some-first_from-clause-found t c =
     let g = c.args.b.now.game in
     let p = c.args.b.now.stand.position in
     let v = c.args.v in
-    let are : (x : ℕ)
-    → contains c.partners-replies.result x ≡ is_lacking g (after g p v) c.args.side 1 x =
-    λ x. c.partners-replies.ensures x
-    ∙ replies-are g p c.args.side c.args.depth c.requires.searches v c.requires.attack x in
     subst (λ (n : ℕ). IsFound (Replied g (after g p v) c.args.side) n (Some c.behind.result))
     (sym c.if-depth-eq1.true)
     (reply-two g (after g p v) c.args.side c.requires.searches.single c.requires.answering
-    c.partners-replies.result are c.in-Some.u c.in-Some.ensures.found c.in-Some-first_from.w
-    c.behind.result c.in-Some-first_from.ensures.found
+    c.partners-replies.result
+    (replies-are g p c.args.side c.args.depth c.requires.searches v c.requires.attack
+    c.partners-replies.result c.partners-replies.ensures) c.in-Some.u c.in-Some.ensures.found
+    c.in-Some-first_from.w c.behind.result c.in-Some-first_from.ensures.found
     (c.behind.ensures.points ∙ ap (λ xs. c.in-Some.u ∷ xs) c.last.ensures.points)
     (omega (arith, c.behind.ensures.len, c.last.ensures.len)))
 
@@ -57,14 +53,13 @@ answered-returns-in-None-clause-found t c =
     let g = c.args.b.now.game in
     let p = c.args.b.now.stand.position in
     let v = c.args.v in
-    let are : (x : ℕ)
-    → contains c.partners-replies.result x ≡ is_lacking g (after g p v) c.args.side 1 x =
-    λ x. c.partners-replies.ensures x
-    ∙ replies-are g p c.args.side c.args.depth c.requires.searches v c.requires.attack x in
     subst (λ (n : ℕ). IsFound (Replied g (after g p v) c.args.side) n None)
     (sym c.if-depth-eq1.true)
     (reply-one g (after g p v) c.args.side c.requires.searches.single c.requires.answering
-    c.partners-replies.result are c.in-Some.u c.in-Some.ensures.found c.in-None.ensures.none)
+    c.partners-replies.result
+    (replies-are g p c.args.side c.args.depth c.requires.searches v c.requires.attack
+    c.partners-replies.result c.partners-replies.ensures) c.in-Some.u c.in-Some.ensures.found
+    c.in-None.ensures.none)
 
 pub answered-leaves_none-requires-clause-attacking :
     goal.answered-leaves_none-requires-clause-attacking
@@ -83,14 +78,13 @@ answered-returns-then-leaves_none-clause-found t c =
     let g = c.args.b.now.game in
     let p = c.args.b.now.stand.position in
     let v = c.args.v in
-    let are : (x : ℕ)
-    → contains c.partners-replies.result x ≡ is_lacking g (after g p v) c.args.side 1 x =
-    λ x. c.partners-replies.ensures x
-    ∙ replies-are g p c.args.side c.args.depth c.requires.searches v c.requires.attack x in
     let deeper : 2 ≤ c.args.depth =
     omega (arith, c.requires.searches.some, c.if-depth-eq1.false) in
     reply-barren g (after g p v) c.args.side c.requires.searches.single c.requires.answering
-    c.partners-replies.result are c.in-Some.u c.in-Some.ensures.found c.args.depth deeper
+    c.partners-replies.result
+    (replies-are g p c.args.side c.args.depth c.requires.searches v c.requires.attack
+    c.partners-replies.result c.partners-replies.ensures) c.in-Some.u c.in-Some.ensures.found
+    c.args.depth deeper
     (attack-least g p c.args.side c.args.depth c.requires.searches v c.requires.attack
     c.requires.answering) (c.leaves_none.ensures c.if-leaves_none.true)
 
@@ -99,15 +93,12 @@ answered-returns-then-is_idle-clause-found t c =
     let g = c.args.b.now.game in
     let p = c.args.b.now.stand.position in
     let v = c.args.v in
-    let are : (x : ℕ)
-    → contains c.partners-replies.result x ≡ is_lacking g (after g p v) c.args.side 1 x =
-    λ x. c.partners-replies.ensures x
-    ∙ replies-are g p c.args.side c.args.depth c.requires.searches v c.requires.attack x in
     let deeper : 2 ≤ c.args.depth =
     omega (arith, c.requires.searches.some, c.if-depth-eq1.false) in
     reply-idle g p c.args.side c.requires.searches.single c.requires.searches.attacking v
     c.in-Some.u c.args.depth deeper c.requires.attack c.requires.answering
-    c.partners-replies.result are c.in-Some.ensures.found
+    c.partners-replies.result (replies-are g p c.args.side c.args.depth c.requires.searches v
+    c.requires.attack c.partners-replies.result c.partners-replies.ensures) c.in-Some.ensures.found
     (attack-least g p c.args.side c.args.depth c.requires.searches v c.requires.attack
     c.requires.answering) c.requires.searches.least
     (subst (λ (n : ℕ). IsIdle g p c.args.side v c.in-Some.u n) c.from.ensures
@@ -122,26 +113,24 @@ answered-play-requires-2-clause-range t c =
     let g = c.args.b.now.game in
     let p = c.args.b.now.stand.position in
     let v = c.args.v in
-    let are : (x : ℕ)
-    → contains c.partners-replies.result x ≡ is_lacking g (after g p v) c.args.side 1 x =
-    λ x. c.partners-replies.ensures x
-    ∙ replies-are g p c.args.side c.args.depth c.requires.searches v c.requires.attack x in
     subst (λ (h : Game). c.in-Some.u < point_count h) (sym c.play.ensures.game)
     (reply-free g (after g p v) c.args.side c.requires.searches.single c.requires.answering
-    c.partners-replies.result are c.in-Some.u c.in-Some.ensures.found.member).0
+    c.partners-replies.result
+    (replies-are g p c.args.side c.args.depth c.requires.searches v c.requires.attack
+    c.partners-replies.result c.partners-replies.ensures) c.in-Some.u
+    c.in-Some.ensures.found.member).0
 
 pub answered-play-requires-2-clause-free : goal.answered-play-requires-2-clause-free
 answered-play-requires-2-clause-free t c =
     let g = c.args.b.now.game in
     let p = c.args.b.now.stand.position in
     let v = c.args.v in
-    let are : (x : ℕ)
-    → contains c.partners-replies.result x ≡ is_lacking g (after g p v) c.args.side 1 x =
-    λ x. c.partners-replies.ensures x
-    ∙ replies-are g p c.args.side c.args.depth c.requires.searches v c.requires.attack x in
     subst (λ (x : Position). is_free x c.in-Some.u ≡ true) (sym c.play.ensures.position)
     (reply-free g (after g p v) c.args.side c.requires.searches.single c.requires.answering
-    c.partners-replies.result are c.in-Some.u c.in-Some.ensures.found.member).1
+    c.partners-replies.result
+    (replies-are g p c.args.side c.args.depth c.requires.searches v c.requires.attack
+    c.partners-replies.result c.partners-replies.ensures) c.in-Some.u
+    c.in-Some.ensures.found.member).1
 
 pub answered-first_of_depth-found-requires : goal.answered-first_of_depth-found-requires
 answered-first_of_depth-found-requires t c =
@@ -151,8 +140,8 @@ answered-first_of_depth-found-requires t c =
     let u = c.in-Some.u in
     let are : (x : ℕ)
     → contains c.partners-replies.result x ≡ is_lacking g (after g p c.args.v) c.args.side 1 x =
-    λ x. c.partners-replies.ensures x
-    ∙ replies-are g p c.args.side c.args.depth c.requires.searches c.args.v c.requires.attack x in
+    replies-are g p c.args.side c.args.depth c.requires.searches c.args.v
+    c.requires.attack c.partners-replies.result c.partners-replies.ensures in
     let least = c.in-Some.ensures.found in
     let member = least.member in
     let all = c.attacks_at-attacks.result.all in
@@ -206,16 +195,15 @@ answered-returns-in-Some-found-clause-found t c =
     let p = c.args.b.now.stand.position in
     let q = after g p c.args.v in
     let u = c.in-Some.u in
-    let are : (x : ℕ)
-    → contains c.partners-replies.result x ≡ is_lacking g (after g p c.args.v) c.args.side 1 x =
-    λ x. c.partners-replies.ensures x
-    ∙ replies-are g p c.args.side c.args.depth c.requires.searches c.args.v c.requires.attack x in
     let deeper : 2 ≤ c.args.depth =
     omega (arith, c.requires.searches.some, c.if-depth-eq1.false) in
     let played = two-played c.args.b.now c.play.new.self c.play-2.new.self c.args.v u
     c.play.ensures.game c.play.ensures.position c.play-2.ensures.game c.play-2.ensures.position in
     reply-found g q c.args.side c.requires.searches.single c.requires.answering
-    c.partners-replies.result are u c.in-Some.ensures.found c.args.depth deeper
+    c.partners-replies.result
+    (replies-are g p c.args.side c.args.depth c.requires.searches c.args.v c.requires.attack
+    c.partners-replies.result c.partners-replies.ensures) u c.in-Some.ensures.found c.args.depth
+    deeper
     (attack-least g p c.args.side c.args.depth c.requires.searches c.args.v c.requires.attack
     c.requires.answering) c.in-Some-found.line c.behind-in-Some-found.result
     (at_same
@@ -230,16 +218,15 @@ answered-returns-in-None-found-clause-found t c =
     let p = c.args.b.now.stand.position in
     let q = after g p c.args.v in
     let u = c.in-Some.u in
-    let are : (x : ℕ)
-    → contains c.partners-replies.result x ≡ is_lacking g (after g p c.args.v) c.args.side 1 x =
-    λ x. c.partners-replies.ensures x
-    ∙ replies-are g p c.args.side c.args.depth c.requires.searches c.args.v c.requires.attack x in
     let deeper : 2 ≤ c.args.depth =
     omega (arith, c.requires.searches.some, c.if-depth-eq1.false) in
     let played = two-played c.args.b.now c.play.new.self c.play-2.new.self c.args.v u
     c.play.ensures.game c.play.ensures.position c.play-2.ensures.game c.play-2.ensures.position in
     reply-fails g q c.args.side c.requires.searches.single c.requires.answering
-    c.partners-replies.result are u c.in-Some.ensures.found c.args.depth deeper
+    c.partners-replies.result
+    (replies-are g p c.args.side c.args.depth c.requires.searches c.args.v c.requires.attack
+    c.partners-replies.result c.partners-replies.ensures) u c.in-Some.ensures.found c.args.depth
+    deeper
     (attack-least g p c.args.side c.args.depth c.requires.searches c.args.v c.requires.attack
     c.requires.answering)
     (at_same (λ h x. IsFound (LeadsToLine h x c.args.side) (c.args.depth - 1) None)
@@ -294,6 +281,12 @@ first_of_depth-returns-in-Some-answered-clause-found t c =
     (subst (λ (b : View). IsFound (Replied b.game (after b.game b.stand.position v) c.args.side)
     c.args.depth (Some c.in-Some-answered.line)) c.loop-next.invariant.0
     c.in-Some-answered.ensures.found) c.behind.ensures.points c.behind.ensures.len
+
+pub first_of_depth-behind-requires : goal.first_of_depth-behind-requires
+first_of_depth-behind-requires t c =
+    replied-short c.loop-next.b.game
+    (after c.loop-next.b.game c.loop-next.b.stand.position c.in-Some.v) c.args.side c.args.depth
+    c.in-Some-answered.line c.in-Some-answered.ensures.found c.requires.searches.few
 
 pub first_of_depth-overflow_add-v : goal.first_of_depth-overflow_add-v
 first_of_depth-overflow_add-v t c =
