@@ -2,18 +2,18 @@
 pub use Rattle.pg_cert_files.specs.Prelude.{AllByRecursion, BeginCert, Bytes, Cert, Claim, Fault}
 pub use Rattle.pg_cert_files.specs.Prelude.{FileError, FinSet, Four, Gives, HYPHEN, Head, IsClaim}
 pub use Rattle.pg_cert_files.specs.Prelude.{IsNode, IsOfVersion, IsReadAs, IsWithinLimits, Lacks}
-pub use Rattle.pg_cert_files.specs.Prelude.{LineError, Node, One, Pair, Part, Shape, Side, Two, Vec}
-pub use Rattle.pg_cert_files.specs.Prelude.{Version, X, all_parts, and_then, ascending_of}
-pub use Rattle.pg_cert_files.specs.Prelude.{claim_parts, claim_words, contains, contains-empty}
-pub use Rattle.pg_cert_files.specs.Prelude.{count_of_two, count_words, decimal, each_has_one}
-pub use Rattle.pg_cert_files.specs.Prelude.{each_of, empty, field_words, flat_map, following}
-pub use Rattle.pg_cert_files.specs.Prelude.{formed, from_list, goal_word, has_bar, has_point}
-pub use Rattle.pg_cert_files.specs.Prelude.{header, insert, is_paired, is_touched, join_with_byte}
-pub use Rattle.pg_cert_files.specs.Prelude.{least, list_all, list_any, nat_cmp, node_count, node_of}
-pub use Rattle.pg_cert_files.specs.Prelude.{node_with, number_of, onto, onto_first, parts}
-pub use Rattle.pg_cert_files.specs.Prelude.{side_word, slice_split, spaced, turn_of, two_parts}
-pub use Rattle.pg_cert_files.specs.Prelude.{version_of, with_body, with_form, without_empty_end}
-pub use Rattle.pg_cert_files.specs.Prelude.{word_pair}
+pub use Rattle.pg_cert_files.specs.Prelude.{LineError, MAX_MEMBERS, Node, One, Pair, Part, Shape}
+pub use Rattle.pg_cert_files.specs.Prelude.{Side, Two, Vec, Version, X, all_parts, and_then}
+pub use Rattle.pg_cert_files.specs.Prelude.{ascending_of, claim_parts, claim_words, contains}
+pub use Rattle.pg_cert_files.specs.Prelude.{contains-empty, count_of_two, count_words, decimal}
+pub use Rattle.pg_cert_files.specs.Prelude.{each_has_one, each_of, empty, field_words, flat_map}
+pub use Rattle.pg_cert_files.specs.Prelude.{following, formed, from_list, goal_word, has_bar}
+pub use Rattle.pg_cert_files.specs.Prelude.{has_point, header, insert, is_paired, is_touched}
+pub use Rattle.pg_cert_files.specs.Prelude.{join_with_byte, least, list_all, list_any, nat_cmp}
+pub use Rattle.pg_cert_files.specs.Prelude.{node_count, node_of, node_with, number_of, onto}
+pub use Rattle.pg_cert_files.specs.Prelude.{onto_first, parts, side_word, slice_split, spaced}
+pub use Rattle.pg_cert_files.specs.Prelude.{turn_of, two_parts, version_of, with_body, with_form}
+pub use Rattle.pg_cert_files.specs.Prelude.{without_empty_end, word_pair}
 unfoldable pub use Rattle.pg_cert_files.specs.Prelude.{claim_text, count_of, four_parts, head_of}
 unfoldable pub use Rattle.pg_cert_files.specs.Prelude.{lines, node_line, node_text, number}
 unfoldable pub use Rattle.pg_cert_files.specs.Prelude.{printed_certificate, shape_of}

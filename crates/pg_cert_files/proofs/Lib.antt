@@ -14,3 +14,4 @@ pub mod NodeSteps
 pub mod PairWords
 pub mod ShortLines
 pub mod ShortTexts
+pub mod ShortGathering

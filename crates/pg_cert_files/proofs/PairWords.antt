@@ -1,7 +1,7 @@
 -- Words that say pairs, one after the other.
 use Rattle.std.proofs.Common.{◌≡◌, ◌∙◌, ℕ, ◌<◌, Bool, true, false, List, [], ◌∷◌, ◌++◌, length}
 use Rattle.std.proofs.Common.{append_assoc, Result, Ok, Err, Some, refl, sym, ap, subst, inl, inr}
-use Rattle.std.proofs.Common.{arith}
+use Rattle.std.proofs.Common.{arith, ◌+◌}
 use Rattle.std.specs.Prelude.{◌||◌, ◌&&◌, ◌==◌, eqb}
 use Rattle.pg_cert_files.proofs.Common.{FinSet, contains, empty, insert, list_any, list_all}
 use Rattle.pg_cert_files.proofs.Common.{AllByRecursion, slice_split, onto_first, join_with_byte}
@@ -12,10 +12,12 @@ use Rattle.pg_cert_files.proofs.Common.{join_with_byte-slice_split, slice_split-
 use Rattle.pg_cert_files.proofs.Common.{slice_split-cons_no, Pair, has_point, is_paired, onto}
 use Rattle.pg_cert_files.proofs.Common.{each_of, following, Bytes, parts, first_and_others}
 use Rattle.pg_cert_files.proofs.Common.{some_part, each_has_one, word_pair, Fault, HYPHEN}
+use Rattle.pg_cert_files.proofs.Common.{MAX_MEMBERS}
 use Rattle.pg_base.specs.WordLemmas.{in_insert}
 use Rattle.pg_cert_lines.specs.Numerals.{SaysFirst}
 use Rattle.pg_cert_files.specs.Shortened.{share, clash}
-use Rattle.pg_cert_files.specs.Shortening.{ArePairs, EndsInClash, EndsInPairs, HasMet}
+use Rattle.pg_cert_files.specs.Shortening.{ArePairs, EndsInClash, EndsInPairs, HasMet, EndsInExcess}
+use Rattle.pg_cert_files.specs.Shortening.{EndsInMany}
 
 -- ---- the first word as text
 
@@ -242,6 +244,35 @@ clash_met text rest others points t h next on = record {
       (λ e. or_left (is_paired h.pairs t.a) (is_paired h.pairs t.b) (h.met t.a e))
       (λ e. or_right (is_paired h.pairs t.a) (is_paired h.pairs t.b) (h.met t.b e)));
 }
+
+-- ---- many pairs
+
+pub many_none : (text : Bytes) → EndsInMany text 0 text
+many_none text = record { pairs = []; are = are_none text; many = omega arith }
+
+pub many_more : (text rest others : Bytes) (count : ℕ) (t : Pair)
+    → EndsInMany text count rest
+    → ArePairs rest (t ∷ []) others
+    → EndsInMany text (count + 1) others
+many_more text rest others count t h next = record {
+  pairs = h.pairs ++ t ∷ [];
+  are = are_more text rest others h.pairs (t ∷ []) h.are next;
+  many = omega (arith, h.many, length-append h.pairs (t ∷ []));
+}
+
+-- two that share a point, and many after them
+pub excess_from : (text mid others : Bytes)
+    → EndsInClash text mid
+    → EndsInMany mid MAX_MEMBERS others
+    → EndsInExcess text others
+excess_from text mid others a b = record {
+  pairs = a.pairs ++ b.pairs;
+  are = are_more text mid others a.pairs b.pairs a.are b.are;
+  clashes = clash_more a.pairs b.pairs a.clashes;
+  many = omega (arith, b.many, length-append a.pairs b.pairs);
+}
+
+-- ---- any pairs
 
 pub pairs_none : (text : Bytes) → EndsInPairs text text
 pairs_none text = record { pairs = []; are = are_none text }

@@ -2,7 +2,7 @@
 -- common.
 use Rattle.std.proofs.Common.{◌≡◌, ◌∙◌, ◌⊎◌, ℕ, ◌-◌, Bool, true, false, List, [], ◌∷◌, ◌++◌, length}
 use Rattle.std.proofs.Common.{take, append_assoc, Result, Ok, Err, Option, Some, None, refl, sym}
-use Rattle.std.proofs.Common.{ap, subst, inl, inr, eqb-true, arith}
+use Rattle.std.proofs.Common.{ap, subst, inl, inr, eqb-true, arith, ◌≤◌}
 use Rattle.std.specs.Prelude.{◌||◌, ◌&&◌, ◌==◌, if◌then◌else◌, codes}
 use Rattle.pg_cert_files.proofs.Common.{from_list, list_any, AllByRecursion, cases_Bool, or_right}
 use Rattle.pg_cert_files.proofs.Common.{length-append, All-from_recursion, recursion_from_All}
@@ -12,14 +12,14 @@ use Rattle.pg_cert_files.proofs.Common.{parts, four_parts, first_and_others, jus
 use Rattle.pg_cert_files.proofs.Common.{four_two, four_three, all_append, has_bar, turn_of}
 use Rattle.pg_cert_files.proofs.Common.{each_has_one, Shape, with_form, with_body, shape_of}
 use Rattle.pg_cert_files.proofs.Common.{ascending_of, field_words, word_pair, node_with, node_of}
-use Rattle.pg_cert_files.proofs.Common.{formed, node_line, Fault}
+use Rattle.pg_cert_files.proofs.Common.{formed, node_line, Fault, MAX_MEMBERS, take-append-le}
 use Rattle.pg_cert.specs.declared.node.Body.TheVariants as bodies
 use Rattle.pg_cert.specs.declared.node.Node.{Node}
 use Rattle.pg_cert.specs.declared.part.Part.TheVariants as part
 use Rattle.pg_cert_files.specs.CertFile.{behind, node_step}
 use Rattle.pg_cert_files.specs.Shortened.{clash, twice, short_pairs, short_node}
-use Rattle.pg_cert_files.specs.Shortening.{ArePairs, EndsInClash, EndsInPairs, IsFront, IsSpare}
-use Rattle.pg_cert_files.specs.Shortening.{short_step}
+use Rattle.pg_cert_files.specs.Shortening.{ArePairs, EndsInPairs, IsFront, IsSpare, short_step}
+use Rattle.pg_cert_files.specs.Shortening.{EndsInExcess}
 use Rattle.pg_cert_lines.specs.declared.fault.Fault.TheVariants as faults
 use Rattle.pg_cert_lines.specs.declared.form.Form.TheVariants as forms
 use Rattle.pg_cert_files.specs.declared.progress.Progress.{Progress}
@@ -165,17 +165,26 @@ body_line Two x y (Some turn) ws us form read = same_pairs x y turn ws us form r
 
 -- ---- the words of the two lines
 
-short_clash : (ps : List Pair) → clash ps ≡ true → short_pairs ps ≡ twice
+short_clash : (ps : List Pair) → clash ps ≡ true → short_pairs ps ≡ twice ++ take MAX_MEMBERS ps
 short_clash ps e = rw e refl
+
+short_many : (ps more : List Pair)
+    → clash ps ≡ true
+    → MAX_MEMBERS ≤ length ps
+    → short_pairs (ps ++ more) ≡ twice ++ take MAX_MEMBERS ps
+short_many ps more e many = short_clash (ps ++ more) (clash_more ps more e)
+    ∙ ap (λ (l : List Pair). twice ++ l) (take-append-le MAX_MEMBERS ps more many)
 
 same_following : (ps qs : List Pair) (r : Result (List Pair) Fault)
     → clash ps ≡ true
+    → MAX_MEMBERS ≤ length ps
     → SameRead (following ps (following qs r)) (following ps r)
-same_following ps qs (Ok rs) e = short_clash (ps ++ (qs ++ rs)) (clash_more ps (qs ++ rs) e)
-    ∙ sym (short_clash (ps ++ rs) (clash_more ps rs e))
-same_following ps qs (Err fault) e = refl
+same_following ps qs (Ok rs) e many =
+    short_many ps (qs ++ rs) e many ∙ sym (short_many ps rs e many)
+same_following ps qs (Err fault) e many = refl
 
 module _ (ps qs : List Pair) (front more tail : List Bytes) (clashes : clash ps ≡ true)
+    (many : MAX_MEMBERS ≤ length ps)
     (form_front : each_has_one 45 front ≡ true) (form_more : each_has_one 45 more ≡ true)
     (says_front : each_of word_pair front ≡ Ok ps)
     (says_more : each_of word_pair more ≡ Ok qs) where
@@ -202,7 +211,7 @@ module _ (ps qs : List Pair) (front more tail : List Bytes) (clashes : clash ps 
       subst (λ (r : Result (List Pair) Fault). SameRead r (each_of word_pair (front ++ tail)))
       (sym one) (subst (λ (s : Result (List Pair) Fault).
       SameRead (following ps (following qs (each_of word_pair tail))) s) (sym two)
-      (same_following ps qs (each_of word_pair tail) clashes))
+      (same_following ps qs (each_of word_pair tail) clashes many))
 
 -- ---- bars
 
@@ -322,7 +331,7 @@ step_same others p (Err e) (Ok m) h = absurd cc
 -- the line with the words that may be left out, and without them, whatever the rest is
 module _ (x y t f g : Bytes) (no_x : Lacks 124 x) (no_y : Lacks 124 y) (no_t : Lacks 124 t)
     (no_f : NoBar f) (no_g : NoBar g) (ps qs : List Pair) (fw gw : List Bytes)
-    (clashes : clash ps ≡ true)
+    (clashes : clash ps ≡ true) (many : MAX_MEMBERS ≤ length ps)
     (seam_f : (tail : Bytes) → parts 32 (f ++ tail) ≡ fw ++ parts 32 tail)
     (seam_g : (tail : Bytes) → parts 32 (g ++ tail) ≡ gw ++ parts 32 tail)
     (form_f : each_has_one 45 fw ≡ true) (form_g : each_has_one 45 gw ≡ true)
@@ -341,8 +350,8 @@ module _ (x y t f g : Bytes) (no_x : Lacks 124 x) (no_y : Lacks 124 y) (no_t : L
         seam_f (g ++ tail) ∙ ap (λ (l : List Bytes). fw ++ l) (seam_g tail) in
         let read =
         body_line version x y (turn_of t) (fw ++ (gw ++ parts 32 tail)) (fw ++ parts 32 tail)
-        (same_form ps qs fw gw (parts 32 tail) clashes form_f form_g says_f says_g)
-        (same_words ps qs fw gw (parts 32 tail) clashes form_f form_g says_f says_g) in
+        (same_form ps qs fw gw (parts 32 tail) clashes many form_f form_g says_f says_g)
+        (same_words ps qs fw gw (parts 32 tail) clashes many form_f form_g says_f says_g) in
         ap short_read
         (long
         ∙ ap (λ (ws : List Bytes). formed (with_body version x y (turn_of t) (codes "pairs" ∷ ws)))
@@ -390,7 +399,7 @@ line_append x y t a b =
 pub spare_is : (line words others rest : Bytes)
     → IsFront line words
     → Lacks 124 words
-    → EndsInClash words others
+    → EndsInExcess words others
     → EndsInPairs others rest
     → IsSpare line (take (length line - length others) line) rest
 spare_is line words others rest h lacks first second =
@@ -423,7 +432,8 @@ spare_is line words others rest h lacks first second =
           append_assoc kept rest more ∙ sym (line_append h.x h.y h.turn f (rest ++ more)) in
           ap (λ (l : Bytes). short_step (node_step before p l)) long
           ∙ same_step h.x h.y h.turn f g h.no_x h.no_y h.no_turn apart.0 behind_f.0 first.pairs
-          second.pairs first.are.words second.are.words first.clashes first.are.seam second.are.seam
-          first.are.form second.are.form first.are.says second.are.says before p (rest ++ more)
+          second.pairs first.are.words second.are.words first.clashes first.many first.are.seam
+          second.are.seam first.are.form second.are.form first.are.says second.are.says before p
+          (rest ++ more)
           ∙ sym (ap (λ (l : Bytes). short_step (node_step before p l)) short);
     })

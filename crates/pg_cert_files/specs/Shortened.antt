@@ -1,9 +1,9 @@
 -- Certificates whose pairs are cut short where two of them share a point: in no game are such pairs
--- a pairing, so neither the pairs behind these nor which points they share count.
+-- a pairing, so no more of them count than may be drawn, nor which points they share.
 use Rattle.std.specs.Prelude.{◌≡◌, ℕ, ◌+◌, ◌≤◌, ◌||◌, Bool, false, if◌then◌else◌, List, [], ◌∷◌}
-use Rattle.std.specs.Prelude.{◌++◌, length, map, Option, Result, Ok, Err, option_map}
+use Rattle.std.specs.Prelude.{◌++◌, length, map, Option, Result, Ok, Err, option_map, take}
 use Rattle.pg_cert_files.specs.Prelude.{list_any, Bytes, lines, Pair, has_point, Cert, Claim, Body}
-use Rattle.pg_cert_files.specs.Prelude.{Node, Part, Fault}
+use Rattle.pg_cert_files.specs.Prelude.{Node, Part, Fault, MAX_MEMBERS}
 use Rattle.pg_cert.specs.declared.node.Body.TheVariants as bodies
 use Rattle.pg_cert.specs.declared.part.Part.TheVariants as parts
 use Rattle.pg_cert_files.specs.CertFile.{Seen, seen, outcome, unless_faulty}
@@ -25,9 +25,10 @@ clash (s ∷ pairs) = list_any (share s) pairs || clash pairs
 abbrev pub twice : List Pair
 twice = record { a = 0; b = 0 } ∷ record { a = 0; b = 0 } ∷ []
 
--- pairs of which two share a point are as one pair twice
+-- pairs of which two share a point are as one pair twice, followed by the first of them, as many as
+-- there may be points
 abbrev pub short_pairs : List Pair → List Pair
-short_pairs pairs = if clash pairs then twice else pairs
+short_pairs pairs = if clash pairs then twice ++ take MAX_MEMBERS pairs else pairs
 
 abbrev pub short_body : Body → Body
 short_body (bodies.Pairs pairs) = bodies.Pairs (short_pairs pairs)

@@ -1,9 +1,9 @@
 -- A line of pairs of which some may be left out.
 use Rattle.std.specs.Prelude.{◌≡◌, ℕ, ◌+◌, ◌<◌, true, List, ◌++◌, ◌∷◌, length, Option, Result, Ok}
-use Rattle.std.specs.Prelude.{Err, option_map, codes}
+use Rattle.std.specs.Prelude.{Err, option_map, codes, ◌≤◌}
 use Rattle.pg_cert_files.specs.Prelude.{FinSet, contains, nat_cmp, Pair, BAR, SPACE, is_paired}
 use Rattle.pg_cert_files.specs.Prelude.{each_of, Bytes, Lacks, parts, each_has_one, word_pair}
-use Rattle.pg_cert_files.specs.Prelude.{HYPHEN}
+use Rattle.pg_cert_files.specs.Prelude.{HYPHEN, MAX_MEMBERS}
 use Rattle.pg_cert_files.specs.CertFile.{Step, node_step}
 use Rattle.pg_cert_files.specs.Reader.{StandsFor, told}
 use Rattle.pg_cert_files.specs.Shortened.{AreAlike, clash, short_part}
@@ -25,6 +25,19 @@ pub record EndsInClash (text rest : Bytes) : Type 0 where
   pub pairs : List Pair
   pub are : ArePairs text pairs rest
   pub clashes : clash pairs ≡ true
+
+-- they are at least so many
+pub record EndsInMany (text : Bytes) (count : ℕ) (rest : Bytes) : Type 0 where
+  pub pairs : List Pair
+  pub are : ArePairs text pairs rest
+  pub many : count ≤ length pairs
+
+-- two of them share a point, and they are at least as many as there may be points
+pub record EndsInExcess (text rest : Bytes) : Type 0 where
+  pub pairs : List Pair
+  pub are : ArePairs text pairs rest
+  pub clashes : clash pairs ≡ true
+  pub many : MAX_MEMBERS ≤ length pairs
 
 -- whatever the pairs are
 pub record EndsInPairs (text rest : Bytes) : Type 0 where

@@ -2,7 +2,7 @@
 ghost use Rattle.std.specs.Prelude.{◌++◌, [], List, ℕ, IfOk};
 ghost use Rattle.pg_cert.specs.Limits.{IsWithinLimits};
 ghost use Rattle.pg_cert_files.specs.CertFile.{certificate};
-ghost use Rattle.pg_cert_files.specs.Gatherer.{HasGathered};
+ghost use Rattle.pg_cert_files.specs.Gatherer.{HasGathered, HasGatheredShort, IsGathering};
 ghost use Rattle.pg_cert_files.specs.Prelude.{IsReadAs};
 
 use crate::cert_state::CertReader;
@@ -48,6 +48,18 @@ impl CertGathering {
             self.gatherer = gatherer.with(alloc, fed.part)?;
         }
         Ok(())
+    }
+
+    /// Cuts the line in hand short, as `CertReader::shorten` does. What is gathered is then that of
+    /// a text that is like this one.
+    ///
+    /// `Memory` means that memory was refused; then the gathering can only be dropped.
+    pub fn shorten(&mut self, alloc: Global) -> Result<(), Memory>
+        requires { IsGathering self.old }
+        ensures { IfOk result (λ _. (text : List ℕ) → HasGathered self.old text
+            → HasGatheredShort self.new text) }
+    {
+        self.reader.shorten(alloc)
     }
 
     /// Ends the file: its certificate, or its first fault.

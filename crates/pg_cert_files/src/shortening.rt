@@ -2,7 +2,7 @@
 
 ghost use Rattle.std.specs.Prelude.{◌≡◌, ◌||◌, ◌<◌, ◌≤◌, ◌∷◌, [], List, ℕ, length, IfOk, IfSome};
 ghost use Rattle.pg_cert_files.specs.Prelude.{contains, MAX_MEMBERS};
-ghost use Rattle.pg_cert_files.specs.Shortening.{ArePairs, EndsInClash, EndsInPairs, IsFront, IsSpare, StandsShort};
+ghost use Rattle.pg_cert_files.specs.Shortening.{ArePairs, EndsInClash, EndsInExcess, EndsInMany, EndsInPairs, IsFront, IsSpare, StandsShort};
 ghost use Rattle.pg_cert_files.specs.Shortened.{HasBeenFed, IsFedShort};
 ghost use Rattle.pg_cert_files.specs.Reader.{StandsFor};
 ghost use Rattle.pg_cert_files.specs.Pieces.{IsFed};
@@ -12,7 +12,7 @@ use crate::cert_state::CertReader;
 use crate::limits::MAX_CERT_BYTES;
 use crate::progress::Due;
 use crate::reader::LineReader;
-use pg_base::{BAR, Memory, Pair, PointSet, SPACE};
+use pg_base::{BAR, MAX_MEMBERS, Memory, Pair, PointSet, SPACE};
 use pg_cert_lines::first_pair;
 use pg_text::cut_at;
 use std::alloc::Global;
@@ -67,6 +67,30 @@ fn behind_clash(text: &[u8]) -> Option<&[u8]>
     None
 }
 
+/// Returns the text after the next words, if these are pairs and as many as there may be points.
+#[tactic(auto, using(crate::proofs::PairWords::many_none, crate::proofs::PairWords::many_more))]
+fn behind_many(text: &[u8]) -> Option<&[u8]>
+    ensures { IfSome result (λ others. EndsInMany text.now MAX_MEMBERS others.now) }
+{
+    let mut rest = text;
+    for _i in 0..MAX_MEMBERS {
+        let (_pair, others) = next_pair(rest)?;
+        rest = others;
+    }
+    Some(rest)
+}
+
+/// Returns the text after the first words, if these are pairs of which two share a point, and after
+/// these two come as many as there may be points.
+#[tactic(auto, using(crate::proofs::PairWords::excess_from))]
+fn behind_excess(text: &[u8]) -> Option<&[u8]>
+    ensures { IfSome result (λ others. EndsInExcess text.now others.now) }
+{
+    let mid = behind_clash(text)?;
+    let others = behind_many(mid)?;
+    Some(others)
+}
+
 /// What stands after the first words that are pairs.
 #[tactic(auto, using(crate::proofs::PairWords::pairs_none, crate::proofs::PairWords::pairs_more))]
 fn behind_pairs(text: &[u8]) -> &[u8]
@@ -102,7 +126,7 @@ fn spare(line: &[u8]) -> Option<Ends<'_>>
     if cut_at(BAR, words).is_some() {
         return None;
     }
-    let others = behind_clash(words)?;
+    let others = behind_excess(words)?;
     let rest = behind_pairs(others);
     let kept = &line[..line.len() - others.len()];
     Some(Ends { kept, rest })
@@ -151,8 +175,8 @@ impl CertReader {
     }
 
     /// Cuts the line in hand short, if it is long and has pairs that no certificate needs: those
-    /// after two that share a point. The reader is then as if it had been fed a text that is like
-    /// this one.
+    /// after two that share a point and 1,024 more. The reader is then as if it had been fed a text
+    /// that is like this one.
     ///
     /// A line that stayed long is looked at again when it has twice that length.
     pub fn shorten(&mut self, alloc: Global) -> Result<(), Memory>
