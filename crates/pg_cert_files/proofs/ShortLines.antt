@@ -417,6 +417,16 @@ spare_is line words others rest h lacks first second =
     subst (λ (k : Bytes). IsSpare line k rest) is (record {
       dropped = g;
       cut = whole ∙ ap (λ (r : Bytes). kept ++ r) second.are.cut;
+      words = f;
+      front = record {
+        x = h.x;
+        y = h.y;
+        turn = h.turn;
+        cut = refl;
+        no_x = h.no_x;
+        no_y = h.no_y;
+        no_turn = h.no_turn;
+      };
       some = omega (
         arith,
         length-append h.x (124 ∷ (h.y ++ 124 ∷ (h.turn ++ 124 ∷ (codes "pairs" ++ 32 ∷ f)))),

@@ -72,10 +72,13 @@ SayTheSame line other =
     (others : ℕ) (p : Progress) (more : Bytes) → short_step (node_step others p (line ++ more))
     ≡ short_step (node_step others p (other ++ more))
 
--- what stands in the line between its front and its end may be left out
+-- what stands in the line between its front, which begins a line of pairs, and its end may be left
+-- out
 pub record IsSpare (line kept rest : Bytes) : Type 0 where
   pub dropped : Bytes
   pub cut : line ≡ kept ++ (dropped ++ rest)
+  pub words : Bytes
+  pub front : IsFront kept words
   pub some : 0 < length kept
   pub same : SayTheSame line (kept ++ rest)
 

@@ -22,3 +22,4 @@ pub use pg_cert_lines::Fault;
 pub use pg_text::FileError as CertFault;
 pub use progress::{Due, Progress};
 pub use reading::read_cert;
+pub use shortening::{Ends, SHORT_LINE_BYTES, spare};

@@ -18,15 +18,15 @@ use pg_text::cut_at;
 use std::alloc::Global;
 
 /// A line shorter than this is kept as it is.
-const SHORT_LINE_BYTES: usize = 65_536;
+pub const SHORT_LINE_BYTES: usize = 65_536;
 
 /// The ends of a line between which something may be left out.
 #[derive(Drop)]
-struct Ends<'a> {
+pub struct Ends<'a> {
     /// The front of the line.
-    kept: &'a [u8],
+    pub kept: &'a [u8],
     /// Its end.
-    rest: &'a [u8],
+    pub rest: &'a [u8],
 }
 
 /// The pair that the first word says, and what stands after the word and a space.
@@ -119,7 +119,7 @@ fn pair_words(line: &[u8]) -> Option<&[u8]>
 
 /// The line without pairs that no certificate needs, if it has any.
 #[tactic(auto, using(crate::proofs::ShortLines::spare_is))]
-fn spare(line: &[u8]) -> Option<Ends<'_>>
+pub fn spare(line: &[u8]) -> Option<Ends<'_>>
     ensures { IfSome result (λ s. IsSpare line.now s.kept.now s.rest.now) }
 {
     let words = pair_words(line)?;
