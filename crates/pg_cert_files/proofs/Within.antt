@@ -169,17 +169,16 @@ fault_past text more =
 pub last_within : (r : CertReader) (piece : Bytes) (used : ℕ) (part : Option Part)
     → r.size + length piece ≤ MAX_CERT_BYTES
     → used ≤ length piece
-    → IfSome part (λ _. 0 < used)
-    → IfSome part
-    (λ _. (text : Bytes) → StandsFor r.lines text
-    → (told (text ++ take (used - 1) piece)).parts ≡ (told text).parts)
+    → IfSome part (λ _. (0 < used)
+    × ((text : Bytes) → StandsFor r.lines text
+    → (told (text ++ take (used - 1) piece)).parts ≡ (told text).parts))
     → IfSome part (λ _. (0 < used)
     × ((text : Bytes) → IsFed r text
     → parts_told (text ++ take (used - 1) piece) ≡ parts_told text))
-last_within r piece used None few all some last = tt
-last_within r piece used (Some part) few all some last = (
-  some,
-  λ text fed. parts_before r text piece (used - 1) fed few (omega (arith, all)) (last text),
+last_within r piece used None few all last = tt
+last_within r piece used (Some part) few all last = (
+  last.0,
+  λ text fed. parts_before r text piece (used - 1) fed few (omega (arith, all)) (last.1 text),
 )
 
 -- the bytes used of a piece's front are those of the piece

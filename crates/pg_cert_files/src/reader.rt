@@ -100,12 +100,11 @@ impl LineReader {
         requires { self.old.count + length piece.now < 2 ^ 31 }
         ensures used { IfOk result (λ fed. fed.used ≤ length piece.now) }
         ensures all { IfOk result (λ fed. IfNone fed.part (fed.used ≡ length piece.now)) }
-        ensures some { IfOk result (λ fed. IfSome fed.part (λ _. 0 < fed.used)) }
         ensures count { IfOk result (λ fed. self.new.count ≤ self.old.count + fed.used) }
         ensures most { self.new.count ≤ self.old.count + length piece.now }
-        ensures last { IfOk result
-            (λ fed. IfSome fed.part (λ _. (text : List ℕ) → StandsFor self.old text
-            → (told (text ++ take (fed.used - 1) piece.now)).parts ≡ (told text).parts)) }
+        ensures last { IfOk result (λ fed. IfSome fed.part (λ _. (0 < fed.used)
+            × ((text : List ℕ) → StandsFor self.old text
+            → (told (text ++ take (fed.used - 1) piece.now)).parts ≡ (told text).parts))) }
         ensures stands { IfOk result (λ fed. (text : List ℕ) → StandsFor self.old text
             → StandsFor self.new (text ++ take fed.used piece.now)
             × ((told (text ++ take fed.used piece.now)).parts

@@ -9,4 +9,4 @@ returns-clause-parts c = λ text fed. parts_within c.args.self.now text c.args.p
 pub returns-clause-last : goal.returns-clause-last
 returns-clause-last c =
     last_within c.args.self.now c.args.piece.now c.in_ok-fed.fed.used c.in_ok-fed.fed.part
-    c.requires c.in_ok-fed.ensures.used c.in_ok-fed.ensures.some c.in_ok-fed.ensures.last
+    c.requires c.in_ok-fed.ensures.used c.in_ok-fed.ensures.last

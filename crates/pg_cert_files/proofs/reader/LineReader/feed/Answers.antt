@@ -29,6 +29,15 @@ loop-line-preserved c =
     }
 
 pub returns-in-Some-2-clause-last : goal.returns-in-Some-2-clause-last
-returns-in-Some-2-clause-last c = not_before c.args.self.now c.loop-line.self c.args.piece.now
-    c.loop-line.rest.now c.in-Some.line.now c.in-Some.behind.now c.loop-line.invariant.fed
-    c.in-Some.ensures.found.0 c.in-Some.ensures.found.1
+returns-in-Some-2-clause-last c = (
+  omega (
+    arith,
+    ap length c.loop-line.invariant.fed.1,
+    length-append c.loop-line.invariant.fed.0 c.loop-line.rest.now,
+    ap length c.in-Some.ensures.found.0,
+    length-append c.in-Some.line.now (10 ∷ c.in-Some.behind.now),
+  ),
+  not_before c.args.self.now c.loop-line.self c.args.piece.now c.loop-line.rest.now
+      c.in-Some.line.now c.in-Some.behind.now c.loop-line.invariant.fed
+      c.in-Some.ensures.found.0 c.in-Some.ensures.found.1,
+)
