@@ -1,7 +1,7 @@
 -- A certificate that is cut short has the first fault of the whole one, for every game.
 use Rattle.std.proofs.Common.{◌≡◌, ◌∙◌, ◌↔◌, ℕ, suc, ◌+◌, ◌<◌, ◌≤◌, Bool, true, false, List, []}
 use Rattle.std.proofs.Common.{◌∷◌, ◌++◌, length, map, get_or, Option, Some, None, Result, Ok, Err}
-use Rattle.std.proofs.Common.{slice_get, refl, sym, ap, ap₂, subst, inl, inr, arith}
+use Rattle.std.proofs.Common.{slice_get, refl, sym, ap, ap₂, subst, inl, inr, arith, take}
 use Rattle.std.specs.Prelude.{◌||◌, ◌==◌, option_map, IsErrAnd, MatchResult}
 use Rattle.pg_judge.proofs.Common.{append-nil, length-map, Game, AreSoundBefore, FollowMoves}
 use Rattle.pg_judge.proofs.Common.{FollowsMove, HasWeaker, IsFirstFault, IsInGame, IsLeastFault}
@@ -12,6 +12,7 @@ use Rattle.pg_judge.proofs.Common.{number_of}
 use Rattle.std.specs.List.{AllPairs, list_any, slice_index_or}
 use Rattle.std.proofs.lemmas.Bool.{cases_Bool, eqb-true, or_cases}
 use Rattle.std.proofs.lemmas.Option.{slice_get-map}
+use Rattle.pg_base.specs.declared.limits.TheConstants.{MAX_MEMBERS}
 use Rattle.pg_base.specs.declared.pair.Pair.{Pair}
 use Rattle.pg_base.specs.declared.side.Side.{Side}
 use Rattle.pg_game.specs.Pairs.{PairsHold, SharesNone, has_point}
@@ -72,9 +73,9 @@ pairs_at : (g : Game) (p : Position) (side : Side) (ps : List Pair) (t : Bool)
     → clash ps ≡ t
     → PairsHold g p side (short_pairs ps) ↔ PairsHold g p side ps
 pairs_at g p side ps true e =
-    let short : short_pairs ps ≡ twice = rw e refl in (
+    let short : short_pairs ps ≡ twice ++ take MAX_MEMBERS ps = rw e refl in (
       λ h. absurd
-          (clash_not twice refl
+          (clash_not (twice ++ take MAX_MEMBERS ps) refl
           (subst (λ (l : List Pair). PairsHold g p side l) short h).apart.disjoint),
       λ h. absurd (clash_not ps e h.apart.disjoint),
     )
@@ -141,10 +142,10 @@ same_body g c k n (Weaker child) fault = (λ h. h, λ h. h)
 
 -- ---- members of lists whose members are cut short
 
-record IsMember {A : Type 0} (f : A → A) (xs : List A) (i : ℕ) (y : A) : Type 0 where
-  member : A
-  at : slice_get xs i ≡ Some member
-  is : f member ≡ y
+pub record IsMember {A : Type 0} (f : A → A) (xs : List A) (i : ℕ) (y : A) : Type 0 where
+  pub member : A
+  pub at : slice_get xs i ≡ Some member
+  pub is : f member ≡ y
 
 member_of : {A : Type 0} (f : A → A) (xs : List A) (i : ℕ) (y : A) (o : Option A)
     → slice_get xs i ≡ o
@@ -153,12 +154,12 @@ member_of : {A : Type 0} (f : A → A) (xs : List A) (i : ℕ) (y : A) (o : Opti
 member_of f xs i y None at e = absurd cc
 member_of f xs i y (Some x) at e = record { member = x; at = at; is = cc }
 
-member : {A : Type 0} (f : A → A) (xs : List A) (i : ℕ) (y : A)
+pub member : {A : Type 0} (f : A → A) (xs : List A) (i : ℕ) (y : A)
     → slice_get (map f xs) i ≡ Some y
     → IsMember f xs i y
 member f xs i y e = member_of f xs i y (slice_get xs i) refl (sym (slice_get-map f xs i) ∙ e)
 
-there : {A : Type 0} (f : A → A) (xs : List A) (i : ℕ) (x : A)
+pub there : {A : Type 0} (f : A → A) (xs : List A) (i : ℕ) (x : A)
     → slice_get xs i ≡ Some x
     → slice_get (map f xs) i ≡ Some (f x)
 there f xs i x e = slice_get-map f xs i ∙ ap (option_map f) e
@@ -398,7 +399,7 @@ module _ (g : Game) (c d : Cert) (same : short_cert c ≡ short_cert d) where
 
 -- ---- what a text says that is like another
 
-error_same : (P : (Fault × ℕ) → Type 0) (r s : Result Cert (Fault × ℕ))
+pub error_same : (P : (Fault × ℕ) → Type 0) (r s : Result Cert (Fault × ℕ))
     → short_result r ≡ short_result s
     → IsErrAnd s P
     → IsErrAnd r P
@@ -408,12 +409,12 @@ error_same P (Ok c) (Err b) e h = absurd cc
 error_same P (Ok c) (Ok d) e h = absurd h
 
 -- the certificate that the other text says
-record SaysLike (text : Bytes) (d : Cert) : Type 0 where
-  cert : Cert
-  says : certificate text ≡ Ok cert
-  same : short_cert cert ≡ short_cert d
+pub record SaysLike (text : Bytes) (d : Cert) : Type 0 where
+  pub cert : Cert
+  pub says : certificate text ≡ Ok cert
+  pub same : short_cert cert ≡ short_cert d
 
-says_like : (text : Bytes) (d : Cert) (r : Result Cert (Fault × ℕ))
+pub says_like : (text : Bytes) (d : Cert) (r : Result Cert (Fault × ℕ))
     → certificate text ≡ r
     → short_result r ≡ short_result (Ok d)
     → SaysLike text d

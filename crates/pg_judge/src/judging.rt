@@ -30,7 +30,7 @@ pub struct Judging<'a> {
 }
 
 /// How many bytes have come with so many more, and one more than the limit for all that are more.
-fn size_with(size: usize, more: usize) -> usize
+pub fn size_with(size: usize, more: usize) -> usize
     ensures { (text bytes : List ℕ) → size ≡ size_of text
         → more ≡ length bytes
         → result ≡ size_of (text ++ bytes) }

@@ -9,4 +9,4 @@ mod told;
 
 pub use claim_head::ClaimHead;
 pub use fault::JudgeFault;
-pub use judging::Judging;
+pub use judging::{Judging, size_with};
