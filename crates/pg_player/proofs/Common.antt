@@ -1,5 +1,6 @@
 -- What the proofs of this crate name of std and of the crates below.
 pub use Rattle.pg_player.specs.Prelude.{All, Answered, AreBelow, AreCuts, AreFreeWithE, AreTrees}
+pub use Rattle.pg_player.specs.Prelude.{KeepsRest}
 pub use Rattle.pg_player.specs.Prelude.{AvoiderEnforcer, AvoiderHolds, Body, Cert, Claim, Coded-set}
 pub use Rattle.pg_player.specs.Prelude.{Cuts, CutsHold, CutsHoldOn, EndsRight, Field, FinSet}
 pub use Rattle.pg_player.specs.Prelude.{FollowMoves, FollowsMove, Forces, Game, Goal, HasCuts}

@@ -3,6 +3,7 @@ use Rattle.std.proofs.Common.{◌≡◌, ◌≢◌, ◌∙◌, ℕ, ◌<◌, Boo
 use Rattle.std.proofs.Common.{[], ◌∷◌, drop, get_or, length, arith, Option, Some, None, refl, sym}
 use Rattle.std.proofs.Common.{ap, subst, subst₂, inl, inr, ◌⊎◌, eqb-true}
 use Rattle.pg_player.proofs.Common.{cases_Bool, cases_lt, and_parts, false≢true, FinSet, nat_cmp}
+use Rattle.pg_player.proofs.Common.{KeepsRest}
 use Rattle.pg_player.proofs.Common.{other, Goal, Win, Kind, MakerBreaker, MakerMaker}
 use Rattle.pg_player.proofs.Common.{AvoiderEnforcer, Switching, Pair, Side, X, Y, Field, Lines}
 use Rattle.pg_player.proofs.Common.{Game, Position, is_free, point_count, is_over, outcome, after}

@@ -49,7 +49,7 @@ pub use Rattle.pg_game.specs.declared.field.Field.TheVariants.{Lines}
 pub use Rattle.pg_game.specs.declared.game.Game.{Game}
 pub use Rattle.pg_game.specs.declared.position.Position.{Position}
 pub use Rattle.pg_graph.specs.Joiner.{Room}
-pub use Rattle.pg_pairing.specs.Rest.{ArePairsOf, HeldBefore, MayClaim, RestHolds, rest}
+pub use Rattle.pg_pairing.specs.Rest.{ArePairsOf, HeldBefore, MayClaim, RestHolds, rest, KeepsRest}
 pub use Rattle.pg_switch.specs.Replies.{HeldUntil, IsCutsAnswer, IsSwitchingTurn, IsTreesAnswer}
 pub use Rattle.pg_switch.specs.Replies.{LeavesHeld}
 pub use Rattle.std.specs.Coded.{Coded-set, coded_bool, coded_list, coded_ℕ}
