@@ -11,7 +11,7 @@
 script makes them where `rt fmt` leaves them: in a declaration with a line that is too wide, a
 signature breaks before its arrows, each `let` has a line, and so have the cases of an `elim`, the
 fields of a record and the parts of a tuple, if one must break. What fits is left. Comments are
-filled. Rust code is left to `rt fmt`, and so are imports, which it would lay out a name a line.
+filled, and an import of names becomes several from the same module. Rust code is left to `rt fmt`.
 
 No word changes: each part that is laid out is read again and compared. A text that an edit
 (`crates/*/must-fail`, `bench/edits`) looks for in one line stays in one line. What is too wide
@@ -35,6 +35,7 @@ import width
 COMMENT = re.compile(r"\s*(///|//!|//|--)( |$)")
 CLAUSE = re.compile(r"\s*(requires|ensures|ghost)\b(?! use)[^{]*\{ ")
 HEAD = re.compile(r"\s*(pub )?(module|record|data) ")
+IMPORT = re.compile(r"(\s*(?:unfoldable )?(?:pub |ghost )?use Rattle\.\S+\.\{)([^{}]*)(\};?)$")
 LISTED = re.compile(r"(?:[-*+]|\d+[.)]) +")
 WORD = re.compile(r"`[^`]*`[^\s`]*|\S+")
 
@@ -106,6 +107,8 @@ def units(lines: list[str], proofs: bool) -> Iterator[Unit]:
         if COMMENT.match(lines[k]):
             end = comment_end(lines, k)
             yield Unit(k, end, "comment")
+        elif IMPORT.match(lines[k]):
+            yield Unit(k, end, "import")
         elif proofs and lines[k].strip() and not re.match(r"\s*(pub )?(use|mod) ", lines[k]):
             end = declaration_end(lines, k)
             yield Unit(k, end, "declaration")
@@ -168,6 +171,25 @@ def comment(lines: list[str]) -> list[str]:
     return [*new, *lines[done:]]
 
 
+# Imports.
+
+
+def imports(line: str) -> list[str]:
+    """Splits an import into as few as fit, each from the same module.
+
+    >>> imports("use Rattle.a.{" + "b" * 50 + ", " + "c" * 50 + ", d}")[1].count("c"), len(
+    ...     imports("use Rattle.a.{b, c}"))
+    (50, 1)
+    """
+    head, names, end = IMPORT.match(line).groups()
+    groups: list[list[str]] = [[]]
+    for name in names.split(", "):
+        if groups[-1] and len(head + ", ".join([*groups[-1], name]) + end) > breaks.COLUMNS:
+            groups.append([])
+        groups[-1].append(name)
+    return [head + ", ".join(group) + end for group in groups]
+
+
 # Files.
 
 
@@ -175,6 +197,8 @@ def laid_out(unit: Unit, lines: list[str], wanted: Iterable[str]) -> list[str]:
     """Lays out a unit; a clause by what is in its braces. What is wanted stays in one line."""
     if unit.kind == "comment":
         return comment(lines)
+    if unit.kind == "import":
+        return imports(lines[0])
     text, column = "\n".join(lines), indent_of(lines[0])
     lead, tail = "", ""
     if unit.kind == "clause":
@@ -194,6 +218,9 @@ def same(unit: Unit, old: list[str], new: list[str]) -> bool:
         words = ["".join(lines).split() for lines in (
             [re.sub(COMMENT, " ", line, count=1) + " " for line in lines] for lines in (old, new))]
         return words[0] == words[1]
+    if unit.kind == "import":
+        named = [IMPORT.match(line)[2] for line in new]
+        return ", ".join(named) == IMPORT.match(old[0])[2]
     return breaks.meaning("\n".join(old)) == breaks.meaning("\n".join(new))
 
 

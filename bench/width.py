@@ -4,9 +4,10 @@
     bench/width.py                      all kinds of file
     bench/width.py --only docs scripts  these kinds only
 
-A line has at most 100 characters, and a row of a table of Markdown 120. Not counted is an import or
-an attribute of a source, which `rt fmt` doesn't split. The status is 1 if a line is too long. The
-files are those that git knows, or would take. Of a line of a source it is said what is to be done.
+A line has at most 100 characters, and a row of a table of Markdown 120. Not counted are imports of
+a name that is too wide alone, and imports and attributes of Rust code. The status is 1 if a line is
+too long. The files are those that git knows, or would take. Of a line of a source it is said what
+is to be done.
 
 Its examples are tried by `python3 -m doctest bench/width.py`. Nothing is proved of this script.
 """
@@ -66,11 +67,17 @@ def is_script(name: str) -> bool:
 def limit(kind: str, line: str) -> int | None:
     """Returns the most columns that a line may have, or None if it may have any number.
 
-    >>> limit("docs", "| a | b |"), limit("docs", "text"), limit("sources", "ghost use a.{b, c}")
+    >>> limit("docs", "| a | b |"), limit("docs", "text"), limit("sources", "ghost use a.{b, c};")
     (120, 100, None)
+    >>> limit("sources", "use Rattle.a.{b, c}"), limit("sources", "use Rattle.a.{%s}" % ("b" * 99))
+    (100, None)
     """
     if kind == "docs" and line.startswith("|"):
         return TABLE_COLUMNS
+    names = re.match(r"(\s*(?:unfoldable )?(?:pub )?use Rattle\.\S+\.\{)(.+)\}$", line)
+    if kind == "sources" and names:
+        widest = max(map(len, names[2].split(", ")))
+        return COLUMNS if len(names[1]) + widest < COLUMNS else None
     if kind == "sources" and re.match(r"\s*((unfoldable )?((pub|ghost) )?use \S|#\[)", line):
         return None
     if kind == "examples" and not line.startswith("#"):
