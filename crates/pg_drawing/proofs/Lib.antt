@@ -1,4 +1,6 @@
 mod Common
 pub mod Openings
+pub mod Coming
+pub mod Alike
 pub mod Found
 pub mod Endings

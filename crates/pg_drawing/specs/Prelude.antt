@@ -24,8 +24,8 @@ pub use Rattle.pg_span.specs.declared.cert.SpanCert.{SpanCert}
 pub use Rattle.pg_span.specs.declared.game.SpanGame.{SpanGame}
 pub use Rattle.pg_talk.specs.Halts.{HaltCauses, HasCause, IsGameHalt, IsReadHalt, stop_status}
 pub use Rattle.pg_talk.specs.Opening.{IsSaidBy, game_held}
-pub use Rattle.pg_talk.specs.Reading.{IsLackingOne, IsLackingTwo, IsReadAs, Opens, OpensCertificate}
-pub use Rattle.pg_talk.specs.Reading.{certificate_held, game_fault, held_as}
+pub use Rattle.pg_talk.specs.Reading.{IsLackingOne, IsLackingTwo, IsReadAs, Opens, certificate_held}
+pub use Rattle.pg_talk.specs.Reading.{game_fault, held_as}
 pub use Rattle.pg_talk.specs.declared.halt.Halt.{Halt}
 pub use Rattle.pg_talk.specs.declared.halt.Halt.TheVariants.{Refused, Stopped}
 pub use Rattle.pg_text.specs.declared.error.FileError.{FileError}

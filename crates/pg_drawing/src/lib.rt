@@ -3,6 +3,7 @@
 
 mod board;
 mod claims;
+mod incoming;
 mod name;
 mod opening;
 mod picturing;

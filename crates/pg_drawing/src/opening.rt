@@ -1,12 +1,16 @@
-//! Reading games of the families that are drawn.
-ghost use Rattle.std.specs.Prelude.{◌≡◌, Some, IfErr};
-ghost use Rattle.pg_drawing.specs.Prelude.{IsAbsent, ReadsOnly, HaltCauses, IsGameHalt, Opens, span_held};
+//! Reading games of the families that are drawn, and certificates.
+ghost use Rattle.std.specs.Prelude.{◌≡◌, Some, IfErr, IfOk};
+ghost use Rattle.pg_drawing.specs.Prelude.{IsAbsent, IsWithinLimits, ReadsOnly, HaltCauses, IsGameHalt, IsReadHalt, Opens, span_held};
+ghost use Rattle.pg_drawing.specs.Incoming.{OpensAlike};
 ghost use Rattle.pg_drawing.specs.Boards.{IsBoardRead, as_connectivity, board_entry, board_held, is_other_kind};
 
 use crate::board::Board;
+use crate::incoming::Incoming;
+use pg_cert::Cert;
+use pg_cert_files::{CertFault, MAX_CERT_BYTES};
 use pg_family_files::read_span;
 use pg_files::{Fault, MAX_GAME_BYTES, read_game};
-use pg_io::{Files, Stop, read_whole};
+use pg_io::{Files, Stop, pour, read_whole};
 use pg_messages::Refusal;
 use pg_talk::Halt;
 use pg_text::{FileError, Numbered};
@@ -60,5 +64,30 @@ pub(crate) fn open_board<F: Files>(alloc: Global, files: &mut F, name: &str) -> 
         Ok(board) => Ok(board),
         Err(FileError::Bad { number, line }) => Err(Halt::Refused(Refusal::Game { number, line })),
         Err(FileError::Memory) => Err(Halt::Stopped(Stop::Memory)),
+    }
+}
+
+/// The certificate under this name, cut short: of pairs of which two share a point only the first
+/// may be kept. It is gathered as it comes.
+pub(crate) fn open_certificate<F: Files>(
+    alloc: Global,
+    files: &mut F,
+    name: &str,
+) -> Result<Cert, Halt>
+    ensures opened { OpensAlike (F.told files.old).held name.now result }
+    ensures limits { IfOk result IsWithinLimits }
+    ensures halts { IfErr result IsReadHalt }
+    ensures causes { HaltCauses (IsAbsent (F.told files.old).held name.now)
+        (F.told files.old).faults (F.told files.new).faults result }
+    ensures kept { ReadsOnly (F.told files.old) (F.told files.new) }
+{
+    let mut incoming = Incoming::begin(alloc);
+    pour(alloc, files, name, MAX_CERT_BYTES, &mut incoming)?;
+    match incoming.end(alloc) {
+        Ok(certificate) => Ok(certificate),
+        Err(CertFault::Bad { number, line }) => {
+            Err(Halt::Refused(Refusal::Certificate { number, line }))
+        }
+        Err(CertFault::Memory) => Err(Halt::Stopped(Stop::Memory)),
     }
 }

@@ -10,7 +10,7 @@ ghost use Rattle.pg_drawing.specs.Runs.{Gives, IsCertEnd, IsLacking};
 use crate::board::Board;
 use crate::claims::{span_game_text, tell_span_certificate};
 use crate::name::{NodeName, node_named};
-use crate::opening::open_board;
+use crate::opening::{open_board, open_certificate};
 use crate::picturing::{Telling, game_text, tell_certificate};
 use pg_base::Memory;
 use pg_families::open_span_cert;
@@ -18,7 +18,7 @@ use pg_game::Game;
 use pg_io::Files;
 use pg_messages::{DONE, Refusal};
 use pg_span::SpanGame;
-use pg_talk::{Halt, open_certificate};
+use pg_talk::Halt;
 use std::alloc::Global;
 
 /// The text of the picture of a game.
