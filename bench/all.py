@@ -22,41 +22,32 @@ import subprocess
 import sys
 import textwrap
 import time
-from typing import Any, NamedTuple
 
 import kit
 
-POSGAME, PARTS, DRAWS = (kit.built(it) for it in ("posgame", "bench_parts", "posgame_draw"))
+# The title of each bench, and its script with the words for it.
+BENCHES = {
+    "Switching games classed and solved": "games.py classes",
+    "Searches": "games.py searches",
+    "Connectivity games and games on vectors": "families.py",
+    "Large certificates checked": "checking.py",
+    "Large game files": "games.py files",
+    "Plays with their undo on a board": "parts.py board",
+    "Searches for threat lines": "parts.py threat",
+    "Searches for private pairs": "parts.py match",
+    "Pictures of examples, and the largest ones": "pictures.py",
+    "Certificates with images": "images.py",
+    "The lessons of docs/TUTORIAL.md":
+        f"tutorial.py {kit.built('posgame')} --draw {kit.built('posgame_draw')}",
+    "Files, names and consoles of the system that fail, and kills": "real_files.py",
+    "Mutated files, words and dialogues": "fuzz.py --runs 20000",
+    "Each allocation of eighteen runs refused in turn": "memory.py",
+    "Certificates that reviews check": "checked.py",
+}
+# Those that are run by --long alone.
+LONG = {"real_files.py", "fuzz.py"}
 # The longest that a bench may take, in seconds.
 LIMIT = 3600
-
-
-class Bench(NamedTuple):
-    """A bench: its script and arguments."""
-
-    name: str
-    words: list[Any]
-    is_long: bool = False
-
-
-BENCHES = [
-    Bench("Switching games classed and solved", ["games.py", POSGAME, "classes"]),
-    Bench("Searches", ["games.py", POSGAME, "searches"]),
-    Bench("Connectivity games and games on vectors", ["families.py", POSGAME]),
-    Bench("Large certificates checked", ["checking.py", POSGAME]),
-    Bench("Large game files", ["games.py", POSGAME, "files"]),
-    Bench("Plays with their undo on a board", ["parts.py", PARTS, "board"]),
-    Bench("Searches for threat lines", ["parts.py", PARTS, "threat"]),
-    Bench("Searches for private pairs", ["parts.py", PARTS, "match"]),
-    Bench("Pictures of examples, and the largest ones", ["pictures.py", DRAWS]),
-    Bench("Certificates with images", ["images.py", POSGAME]),
-    Bench("The lessons of docs/TUTORIAL.md", ["tutorial.py", POSGAME, "--draw", DRAWS]),
-    Bench("Files, names and consoles of the system that fail, and kills",
-          ["real_files.py", POSGAME], True),
-    Bench("Mutated files, words and dialogues", ["fuzz.py", POSGAME, "--runs", "20000"], True),
-    Bench("Each allocation of eighteen runs refused in turn", ["memory.py", POSGAME]),
-    Bench("Certificates that reviews check", ["checked.py", POSGAME]),
-]
 
 
 def laid_out(lines: list[str]) -> list[str]:
@@ -69,32 +60,27 @@ def laid_out(lines: list[str]) -> list[str]:
     return text
 
 
-def section(bench: Bench) -> tuple[str, bool]:
+def section(title: str, script: str, *words: str) -> tuple[str, bool]:
     """The text of a bench, and whether all went well."""
-    for program in (it for it in bench.words if isinstance(it, pathlib.Path) and not it.exists()):
-        missing = program.relative_to(kit.TOP)
-        return f"## {bench.name}\n\nNot measured: there is no `{missing}`.\n", False
-    command = [sys.executable, str(kit.TOP / "bench" / bench.words[0]), *map(str, bench.words[1:])]
-    begin = time.monotonic()
+    begin, why = time.monotonic(), ""
     try:
-        done = subprocess.run(command, cwd=kit.TOP, stdin=subprocess.DEVNULL, capture_output=True,
-                              text=True, timeout=LIMIT)
+        done = kit.call(sys.executable, f"bench/{script}", *words, cwd=kit.TOP, timeout=LIMIT)
         lines, end = done.stdout.splitlines(), f"ended with status {done.returncode}"
-        why = ": ".join([end, *done.stderr.strip().splitlines()[-1:]]) if done.returncode else ""
+        if done.returncode:
+            why = ": ".join([end, *done.stderr.strip().splitlines()[-1:]])[:240]
     except subprocess.TimeoutExpired as late:
         lines, why = (late.stdout or b"").decode().splitlines(), f"not done after {LIMIT} s"
     seconds = time.monotonic() - begin
     used = resource.getrusage(resource.RUSAGE_CHILDREN).ru_maxrss // 1024
-    tail = [f"`bench/{bench.words[0]}`, {seconds:.0f} s. The greatest process of the benches so far"
-            f" took {used} MB, those of valgrind among them."] + [f"**{why[:240]}**"] * bool(why)
-    text = [f"## {bench.name}", *laid_out(lines or ["Nothing was printed."]), *laid_out(tail), ""]
+    tail = [f"`bench/{script}`, {seconds:.0f} s. The greatest process of the benches so far took "
+            f"{used} MB, those of valgrind among them."] + [f"**{why}**"] * bool(why)
+    text = [f"## {title}", *laid_out(lines or ["Nothing was printed."]), *laid_out(tail), ""]
     return "\n".join(text), not why
 
 
 def head() -> str:
     """The text above all benches: the commit, the processor and the system."""
-    done = subprocess.run(["git", "rev-parse", "--short", "HEAD"], cwd=kit.TOP, capture_output=True,
-                          text=True)
+    done = kit.call("git", "rev-parse", "--short", "HEAD", cwd=kit.TOP)
     text = pathlib.Path("/proc/cpuinfo").read_text(encoding="ascii", errors="replace")
     models = [*re.findall(r"^model name\s*: *(.*)$", text, re.MULTILINE), platform.machine()]
     return f"""# Figures
@@ -107,24 +93,22 @@ row `limit` has the greatest figure that is allowed; a figure above its limit is
 
 
 def main() -> int:
-    words = kit.parser(__doc__, None)
-    words.add_argument("--only", action="append", default=[], metavar="WORD",
-                       help="benches with this word in their names; docs/FIGURES.md stays")
-    words.add_argument("--long", action="store_true", help="the long ones too")
-    words.add_argument("--out", type=pathlib.Path, help="the file written")
-    given, texts, wrong = words.parse_args(), [head()], []
-    for bench in (it for it in BENCHES if given.long or not it.is_long):
-        names = f"{bench.name} {bench.words[0]}"
-        if not given.only or any(word in names for word in given.only):
-            print(bench.name, flush=True)
-            text, is_well = section(bench)
+    given = kit.options(
+        __doc__, None, out=("", "the file written"), long=(False, "the long ones too"),
+        only=([], "benches with this word in their names; docs/FIGURES.md stays"))
+    texts, wrong, left = [head()], [], []
+    for title, command in BENCHES.items():
+        script, *words = command.split()
+        if script in LONG and not given.long:
+            left.append(f"- {title} (`bench/{script}`)\n")
+        elif not given.only or any(it in f"{title} {command}" for it in given.only):
+            print(title, flush=True)
+            text, is_well = section(title, script, *words)
             texts.append(text)
-            wrong += [] if is_well else [bench.name]
-    left = [f"- {it.name} (`bench/{it.words[0]}`)\n" for it in BENCHES if it.is_long]
-    if not given.long and not given.only:
+            wrong += [] if is_well else [title]
+    if left and not given.only:
         texts.append("## Not run here\n\n" + "".join(left))
-    out = given.out or (None if given.only else kit.TOP / "docs" / "FIGURES.md")
-    kit.write_page("\n".join(texts), out)
+    kit.write_page(texts, given, "FIGURES.md")
     return kit.end(wrong)
 
 

@@ -35,7 +35,6 @@ NAMES = {
     "111/010/010": "T", "1110/0011": "N", "110/011/010": "F", "110/011/001": "W",
     "110/010/011": "Z", "010/111/010": "X",
 }
-SIDES = (3, 4, 5, 6)
 ANIMALS = {"maker-breaker": "Maker, who begins, wants all cells of one.",
            "maker-maker": "both want all cells of one.",
            "avoider-enforcer": "Avoider, who begins, loses with all cells of one."}
@@ -53,33 +52,19 @@ class Solved(NamedTuple):
 
 def solved(text: str, given: argparse.Namespace) -> Solved:
     """Solves a board and checks what was stored."""
-    family = ["span"] if text.startswith("posgame-span") else []
-    with kit.files(game=text) as folder:
-        paths = folder / "game", folder / "certificate"
-        words: list[object] = [given.program, *family, "solve", *paths]
-        if not family and "kind switching" not in text:
-            words += ["--positions", given.positions]
-        done = kit.run(*words, most=given.seconds)
-        said, wrong = done.output.strip(), []
-        if said not in RESULTS:
-            count = re.fullmatch(r"unknown after (\d+) positions", said)
-            if count:
-                return Solved("unknown", f"{int(count[1]):,}", done.processor)
-            end = "stopped" if done.status < 0 else f"status {done.status}"
-            return Solved(end, "", done.processor)
-        stored = paths[1].read_text(encoding="ascii")
-        counts = [int(it) for it in re.findall(r"^nodes (\d+)$", stored, re.MULTILINE)]
-        number, winner = sum(counts) or stored.count("\nclaim "), RESULTS[said]
-        if not kit.run(given.program, *family, "check", *paths, most=given.seconds).is_accepted:
-            winner, wrong = f"{winner}, not accepted", [f"{said} is not accepted: {text!r:.300}"]
+    has_lines = re.search("^kind (?!switching)", text, re.MULTILINE)
+    flags = ["--positions", given.positions] if has_lines else []
+    done, stored, is_accepted = kit.solved(given.program, text, *flags, most=given.seconds)
+    count = re.fullmatch(r"unknown after (\d+) positions", done.said)
+    if count:
+        return Solved("unknown", f"{int(count[1]):,}", done.processor)
+    if done.said not in RESULTS:
+        return Solved("stopped" if done.status < 0 else f"status {done.status}", "", done.processor)
+    counts = map(int, re.findall(r"^nodes (\d+)$", stored, re.MULTILINE))
+    number, winner, wrong = sum(counts) or stored.count("\nclaim "), RESULTS[done.said], []
+    if not is_accepted:
+        winner, wrong = f"{winner}, not accepted", [f"{done.said} is not accepted: {text!r:.300}"]
     return Solved(winner, f"{number:,}", done.processor, True, wrong)
-
-
-def rows_of(size: int) -> list[kit.Line]:
-    """The rows, columns and diagonals of a square."""
-    square = [list(range(row * size, (row + 1) * size)) for row in range(size)]
-    diagonals = [[i * size + i for i in range(size)], [(i + 1) * (size - 1) for i in range(size)]]
-    return square + [list(it) for it in zip(*square)] + diagonals
 
 
 def animals(most: int) -> Iterator[str]:
@@ -106,25 +91,6 @@ class Part(NamedTuple):
     rows: list[tuple[list[str], list[str]]]
 
 
-def noughts() -> Part:
-    """Noughts and crosses, with a line of the table for each size."""
-    heads = {size: (f"grid {size} {size}", *kit.line_rows(rows_of(size))) for size in range(2, 6)}
-    rows = [([f"{size} by {size}"], [kit.game(kind, *head) for kind in kit.KINDS])
-            for size, head in heads.items()]
-    return Part("Noughts and crosses", "The lines are rows, columns and both diagonals. X begins.",
-                ["board"], list(kit.KINDS.values()), rows)
-
-
-def animals_of(kind: str, goal: str) -> Part:
-    """All animals on squares of several sizes."""
-    rows = [([f"{NAMES.get(word, '')} `{word}`"],
-             [kit.game(kind, f"grid {side} {side}", f"shape {word}") for side in SIDES])
-            for word in animals(5)]
-    said = f"All animals of up to five cells, in each position, turned and reflected: {goal}"
-    return Part(f"Animals, {kit.KINDS[kind]}", said, ["animal"],
-                [f"{it} by {it}" for it in SIDES], rows)
-
-
 def boxes(kind: str, turn: str, first: str, other: str, title: str = "") -> Part:
     """Boxes without a common point, with one to three points for Y a turn."""
     rows = []
@@ -141,8 +107,19 @@ def boxes(kind: str, turn: str, first: str, other: str, title: str = "") -> Part
 
 def parts() -> Iterator[Part]:
     """Yields the parts of the page."""
-    yield noughts()
-    yield from itertools.starmap(animals_of, ANIMALS.items())
+    heads = {size: [f"grid {size} {size}", *kit.line_rows(kit.in_row(size, size, size, True))]
+             for size in range(2, 6)}
+    yield Part("Noughts and crosses", "The lines are rows, columns and both diagonals. X begins.",
+               ["board"], list(kit.KINDS.values()),
+               [([f"{size} by {size}"], [kit.game(kind, *head) for kind in kit.KINDS])
+                for size, head in heads.items()])
+    for kind, goal in ANIMALS.items():
+        said = f"All animals of up to five cells, in each position, turned and reflected: {goal}"
+        grids = {f"{it} by {it}": f"grid {it} {it}" for it in (3, 4, 5, 6)}
+        rows = [([f"{NAMES.get(word, '')} `{word}`"],
+                 [kit.game(kind, grid, f"shape {word}") for grid in grids.values()])
+                for word in animals(5)]
+        yield Part(f"Animals, {kit.KINDS[kind]}", said, ["animal"], list(grids), rows)
     bridges = {rows: kit.bridge(rows) for rows in range(1, 23)}
     yield Part("Bridg-it", "Whoever begins wins, by two trees and two cuts.", ["rows", "edges"],
                ["class"], [([str(rows), str(len(graph[1]))], [kit.switching(graph)])
@@ -165,22 +142,12 @@ def summary(boards: list[Solved]) -> str:
 
 
 def head(boards: list[Solved], given: argparse.Namespace) -> str:
-    """The lines that begin the page."""
-    settled, day = sum(it.is_settled for it in boards), datetime.date.today()
-    return f"""# Boards
-
-{len(boards)} boards, solved by `bench/boards.py` on {day.isoformat()} with at most
-{given.positions:,} positions a question and {given.seconds} s a run: {settled} are settled.
-
-For each board: the winner under best play, the number of nodes of the certificate that was stored
-and then accepted (of claims, in connectivity games), and the seconds of a processor. The number of
-nodes depends also on the order in which the file lists the lines. After `unknown` the number is
-that of the positions expanded, which leave the question open. A search expands at most 99,999
-positions divided by the number of free points, and each open board here stopped at that.
-
-In Maker-Maker `first` is the side that begins. The class `who begins` is what `solve` prints as
-`first-mover`. An *animal* is a polyomino: cells of a square grid, linked by common sides.
-"""
+    """The text that begins the page, with its first paragraph anew."""
+    title, _, *others = kit.prose("BOARDS.md").split("\n\n")
+    said = (f"{len(boards)} boards, solved by `bench/boards.py` on {datetime.date.today()} with at "
+            f"most\n{given.positions:,} positions a question and {given.seconds} s a run: "
+            f"{sum(it.is_settled for it in boards)} are settled.")
+    return "\n\n".join([title, said, *others])
 
 
 def section(part: Part, pool: concurrent.futures.Executor,
@@ -199,19 +166,15 @@ def section(part: Part, pool: concurrent.futures.Executor,
 
 
 def main() -> int:
-    words = kit.parser(__doc__)
-    words.add_argument("--positions", type=int, default=20_000, help="most positions a question")
-    words.add_argument("--seconds", type=int, default=120, help="processor seconds a run")
-    words.add_argument("--jobs", type=int, default=os.cpu_count(), help="runs at once")
-    words.add_argument("--out", help="the file written")
-    words.add_argument("--only", default="", help="parts with this word in their title; they are"
-                       " printed, unless --out names a file")
-    given = words.parse_args()
+    given = kit.options(
+        __doc__, positions=(20_000, "most positions a question"), out=("", "the file written"),
+        seconds=(120, "processor seconds a run"), jobs=(os.cpu_count(), "runs at once"),
+        only=("", "parts with this word in their title, printed unless --out names a file"))
     with concurrent.futures.ThreadPoolExecutor(given.jobs) as pool:
         sections = [section(it, pool, given) for it in parts() if given.only in it.title]
     boards = [it for _, of_part in sections for it in of_part]
-    whole = "\n".join([head(boards, given), *(line for lines, _ in sections for line in lines)])
-    kit.write_page(whole, given.out or ("" if given.only else kit.TOP / "docs" / "BOARDS.md"))
+    lines = [line for of_part, _ in sections for line in of_part]
+    kit.write_page([head(boards, given), *lines], given, "BOARDS.md")
     return kit.end(fault for it in boards for fault in it.wrong)
 
 

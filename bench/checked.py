@@ -12,11 +12,8 @@ Its examples are tried by `python3 -m doctest bench/checked.py`. Unproved.
 """
 from __future__ import annotations
 
-import pathlib
 import re
-import subprocess
 import sys
-from typing import FrozenSet, List, NamedTuple, Set, Tuple
 
 import kit
 
@@ -35,65 +32,41 @@ ROWS = [
     ("noughts and crosses, without a slip", NOUGHTS, [4, 0, 8, 1, 2, 6]),
     ("noughts and crosses, with a slip of each side", NOUGHTS, [0, 1, 4, 8, 2, 6, 3]),
 ]
+PLAYS = kit.LineGame("maker-breaker", 9, [])
 
 
-class Position(NamedTuple):
-    """The points of both sides, and the side to move."""
-
-    x: FrozenSet[int]
-    y: FrozenSet[int]
-    turn: str
-
-    def after(self, point: int) -> Position:
-        """Returns the position after a move of the side to move."""
-        if self.turn == "x":
-            return Position(self.x | {point}, self.y, "y")
-        return Position(self.x, self.y | {point}, "x")
-
-    def rows(self) -> List[str]:
-        """Returns the last rows of a game file with this position."""
-        marks = [("x", self.x), ("y", self.y)]
-        return [f"{side} {kit.field(sorted(at))}" for side, at in marks if at]
-
-
-def game_at(game: str, position: Position) -> str:
-    """Returns the file of the game at a position; `game` has no marks."""
-    rows = game.splitlines()[:-1]
-    return "\n".join([*rows, *position.rows(), f"turn {position.turn}", ""])
-
-
-def nodes_of(certificate: str) -> List[Set[Position]]:
+def nodes_of(certificate: str) -> list[set[kit.Position]]:
     """Returns the positions of the nodes, claim by claim.
 
     >>> nodes_of("posgame-cert 1\\nclaim y x win\\nnodes 1\\n0 1||y|over\\n")
-    [{Position(x=frozenset({0, 1}), y=frozenset(), turn='y')}]
+    [{(frozenset({0, 1}), frozenset(), 'y', 1)}]
     """
-    claims: List[Set[Position]] = []
+    claims: list[set[kit.Position]] = []
     for line in certificate.splitlines():
         if line.startswith("nodes "):
             claims.append(set())
         elif "|" in line:
             x, y, turn, _ = line.split("|", 3)
             x_points, y_points = (frozenset(map(int, it.split())) for it in (x, y))
-            claims[-1].add(Position(x_points, y_points, turn))
+            claims[-1].add((x_points, y_points, turn, 1))
     return claims
 
 
-def solved(program: str, game: str) -> List[Set[Position]]:
-    """Solves a game, and returns the positions of its certificate's nodes."""
-    with kit.files(G=game) as folder:
-        subprocess.run([program, "solve", "G", "C"], cwd=folder, check=True, capture_output=True)
-        return nodes_of((folder / "C").read_text(encoding="ascii"))
+def solved(program: str, game: str, position: kit.Position) -> list[set[kit.Position]]:
+    """Solves a game without marks at a position, and returns the positions of the nodes."""
+    x, y, turn, _ = position
+    rows = [*game.splitlines()[:-1], *kit.mark_rows(x, y), f"turn {turn}", ""]
+    return nodes_of(kit.solved(program, "\n".join(rows))[1])
 
 
-def due(program: str, game: str, moves: List[int]) -> int:
+def due(program: str, game: str, moves: list[int]) -> int:
     """Returns how many certificates a review of the moves relies on."""
-    position = Position(frozenset(), frozenset(), game.split()[-1])
-    known, found = solved(program, game), 1
+    position: kit.Position = frozenset(), frozenset(), game.split()[-1], 1
+    known, found = solved(program, game, position), 1
     for point in moves:
-        position = position.after(point)
+        position = PLAYS.after(*position, point)
         if not all(position in nodes for nodes in known):
-            known, found = solved(program, game_at(game, position)), found + 1
+            known, found = solved(program, game, position), found + 1
     return found
 
 
@@ -110,20 +83,19 @@ def calls(counts: str) -> int:
     return sum(int(times) for number, times in called if names[number].startswith(CHECKER))
 
 
-def counted(program: str, game: str, moves: List[int]) -> Tuple[int, str]:
+def counted(program: str, game: str, moves: list[int]) -> tuple[int, str]:
     """Returns how often a review of the moves calls the checker, and what it prints."""
     record = "\n".join(["posgame-record 1", *(f"move {point}" for point in moves), ""])
-    with kit.files(G=game, R=record) as folder:
-        counts = folder / "counts"
-        paths = [str(folder / name) for name in "GR"]
-        run = kit.count(program, "review", *paths, counts=counts)
-        return calls(pathlib.Path(counts).read_text(encoding="utf-8")), run.output
+    with kit.files(game=game, record=record) as folder:
+        words, counts = (program, "review", folder / "game", folder / "record"), folder / "counts"
+        said = kit.count(*words, counts=counts).output
+        return calls(counts.read_text(encoding="utf-8")), said
 
 
 def main() -> int:
     """Prints a line for each row, and returns 1 if a number of calls isn't as it should be."""
-    program = kit.program(__doc__)
-    table = kit.Table("review", kit.Column("certificates checked"))
+    program = kit.options(__doc__).program
+    table = kit.Table("review", "certificates checked")
     for name, game, moves in ROWS:
         wanted, (found, said) = due(program, game, moves), counted(program, game, moves)
         wrong = [f"{found} checked, and not {wanted}"] * (found != wanted)

@@ -28,10 +28,8 @@ def lines_of(text: str) -> str:
 
 
 def main() -> int:
-    words = kit.parser(__doc__, None)
-    words.add_argument("--write", action="store_true", help="write the file")
     due = lines_of(LISTS.read_text(encoding="utf-8"))
-    if words.parse_args().write:
+    if kit.options(__doc__, None, write=(False, "write the file")).write:
         CODES.write_text(due, encoding="utf-8")
     agree = CODES.is_file() and CODES.read_text(encoding="utf-8") == due
     print(f"{due.count(chr(10))} codes, {'the same' if agree else 'otherwise'} in {CODES.name}")

@@ -17,16 +17,8 @@ import kit
 from kit import Edge, Points
 
 POINTS = 5
-BOARDS: list[list[tuple[int, ...]]] = [
-    [], [(0, 1), (0, 2)], [(0, 1), (0, 2), (0, 3)], [(0, 1), (2, 3)], [(0, 1, 2), (2, 3, 4)],
-    [(0, 1), (1, 2), (2, 3), (3, 4), (0, 4)], [(0,), (1, 2, 3)],
-    [(0, 1, 2), (0, 1, 2), (0, 1, 3), (0, 2, 4), (3, 4)],
-]
-GRAPHS: list[list[Edge]] = [
-    [], [(0, 1)], [(0, 1), (0, 1)], [(0, 2), (2, 1)], [(0, 2), (2, 1), (0, 1), (2, 2)],
-    [(0, 2), (0, 2), (2, 1), (2, 1)], [(0, 2), (0, 3), (2, 3), (2, 1), (3, 1)],
-    [(0, 2), (2, 3), (3, 2), (3, 1), (0, 1)],
-]
+BOARDS = kit.boards("; 01 02; 01 02 03; 01 23; 012 234; 01 12 23 34 04; 0 123; 012 012 013 024 34")
+GRAPHS = kit.boards("; 01; 01 01; 02 21; 02 21 01 22; 02 02 21 21; 02 03 23 21 31; 02 23 32 31 01")
 GOOD = {("x", "win"): (1,), ("x", "draw"): (0, 1), ("y", "win"): (-1,), ("y", "draw"): (-1, 0)}
 
 
@@ -68,15 +60,23 @@ class Game(kit.LineGame):
                    for line in self.lines)
 
 
-def counts(criterion: Callable[..., bool], sets: list[Any], kind: str, side: str, goal: str,
-           bias: int) -> list[int]:
-    """On each board, how often a criterion holds, and at how many positions the goal is reached."""
+    def attacks(self, side: str, depth: int, x: Points, y: Points, turn: str, left: int) -> bool:
+        """Whether the side to move fills a line by attacks with at most `depth` replies."""
+        may = self.score(x, y) is None and (turn == "x" or self.kind == "maker-maker")
+        return may and self.attack(*((x, y) if turn == "x" else (y, x)), depth)
+
+
+def counts(criterion: Callable[..., bool], sets: list[Any], kind: str, side: str,
+           goal: str = "win", bias: int = 1) -> list[int]:
+    """On each board, how often a criterion holds, and at how many positions the goal is reached, by
+    the side or, if that is empty, by the side to move."""
     found = []
     for game in (Game(kind, POINTS, lines, bias) for lines in BOARDS):
         held = forced = 0
         for position in game.positions():
-            reached = game.value(*position) in GOOD[side, goal]
-            holding = sum(criterion(game, side, *it, *position) for it in sets)
+            own = side or position[2]
+            reached = game.value(*position) in GOOD[own, goal]
+            holding = sum(criterion(game, own, *it, *position) for it in sets)
             assert reached or not holding, (kind, game.lines, position)
             held, forced = held + holding, forced + reached
         found += held, forced
@@ -91,20 +91,10 @@ potential_counts = functools.partial(counts, Game.potential, [()])
 pair_counts = functools.partial(counts, Game.pairing, PAIRS)
 
 
-def threat_counts(kind: str) -> list[tuple[int, int, int]]:
+def threat_counts(kind: str) -> list[tuple[int, ...]]:
     """Of each board how many positions are won at once, by attacks, and at all."""
-    found = []
-    for game in (Game(kind, POINTS, lines) for lines in BOARDS):
-        rows = []
-        for x, y, turn, left in game.positions():
-            wins = game.value(x, y, turn, left) == (1 if turn == "x" else -1)
-            may, both = game.score(x, y) is None, (x, y) if turn == "x" else (y, x)
-            may = may and (turn == "x" or kind == "maker-maker")
-            at_once, attacks = (may and game.attack(*both, depth) for depth in (0, 3))
-            assert wins or not attacks, (kind, game.lines, x, y, turn)
-            rows.append((at_once, attacks, wins))
-        found.append(tuple(map(sum, zip(*rows))))
-    return found
+    at_once, attacks = (counts(Game.attacks, [(depth,)], kind, "") for depth in (0, 3))
+    return list(zip(at_once[::2], attacks[::2], attacks[1::2]))
 
 
 class GraphGame:
@@ -149,22 +139,18 @@ class GraphGame:
         return won, trees, cuts
 
 
-def main() -> None:
-    kit.parser(__doc__, None).parse_args()
+if __name__ == "__main__":
+    kit.options(__doc__, None)
     breaker, race, avoider = kit.KINDS
     for bias in (1, 2, 3):
-        print("Breaker's potential, bias", bias, potential_counts(breaker, "y", "win", bias))
-        print("Breaker's pairs, bias", bias, pair_counts(breaker, "y", "win", bias))
-        print("Avoider's potential, bias", bias, potential_counts(avoider, "x", "win", bias))
-    print("Avoider's pairs", pair_counts(avoider, "x", "win", 1))
+        print("Breaker's potential, bias", bias, potential_counts(breaker, "y", bias=bias))
+        print("Breaker's pairs, bias", bias, pair_counts(breaker, "y", bias=bias))
+        print("Avoider's potential, bias", bias, potential_counts(avoider, "x", bias=bias))
+    print("Avoider's pairs", pair_counts(avoider, "x"))
     for side in "xy":
-        print("potential in a race,", side, potential_counts(race, side, "draw", 1))
-        print("pairs in a race,", side, pair_counts(race, side, "draw", 1))
+        print("potential in a race,", side, potential_counts(race, side, "draw"))
+        print("pairs in a race,", side, pair_counts(race, side, "draw"))
     for kind, name in ((breaker, "breaker"), (race, "race")):
         print("threat lines,", name, threat_counts(kind))
     for ends in GRAPHS:
-        print("positions that X wins, trees, cuts on", ends, GraphGame(list(ends)).counts())
-
-
-if __name__ == "__main__":
-    main()
+        print("positions that X wins, trees, cuts on", ends, GraphGame(ends).counts())

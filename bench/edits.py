@@ -14,7 +14,6 @@ from __future__ import annotations
 import pathlib
 import re
 import shutil
-import subprocess
 
 import kit
 
@@ -23,18 +22,16 @@ EDITS = kit.TOP / "bench" / "edits"
 
 def copy_tracked(copy: pathlib.Path) -> None:
     """Copies the checkout's files that git knows."""
-    listed = subprocess.run(["git", "ls-files", "-z"], cwd=kit.TOP, capture_output=True, check=True,
-                            text=True)
-    for name in filter(lambda name: (kit.TOP / name).is_file(), listed.stdout.split("\0")):
+    listed = kit.call("git", "ls-files", "-z", cwd=kit.TOP, check=True).stdout
+    for name in filter(lambda name: (kit.TOP / name).is_file(), listed.split("\0")):
         (copy / name).parent.mkdir(parents=True, exist_ok=True)
         shutil.copy2(kit.TOP / name, copy / name)
-    subprocess.run(["git", "init", "-q"], cwd=copy, check=True)
+    kit.call("git", "init", "-q", cwd=copy, check=True)
 
 
 def tried(copy: pathlib.Path, names: list[str]) -> int:
     """Tries the edits of these crates in the copy, and returns 1 if one isn't refused."""
-    done = subprocess.run(["rt", "ci", *names], cwd=copy, stdout=subprocess.PIPE,
-                          stderr=subprocess.STDOUT, text=True, errors="replace")
+    done = kit.call("sh", "-c", 'exec rt ci "$@" 2>&1', "rt", *names, cwd=copy, errors="replace")
     lines = [line.strip() for line in re.split("[\r\n]", done.stdout) if line.strip()]
     print(*lines[-3:], sep="\n")
     wrong = filter(re.compile("BAD EDIT|NOT TRIED|NOT REFUSED").search, lines)
@@ -44,11 +41,8 @@ def tried(copy: pathlib.Path, names: list[str]) -> int:
 def main() -> int:
     known = sorted(folder.name for folder in EDITS.iterdir() if folder.is_dir())
     words = kit.parser(__doc__, None)
-    words.add_argument("names", metavar="NAME", nargs="*", help=f"of {', '.join(known)}; else all")
+    words.add_argument("names", metavar="NAME", nargs="*", choices=known, help="all if left out")
     names = words.parse_args().names or known
-    unknown = sorted(set(names) - set(known))
-    if unknown:
-        words.error(f"no edits of {', '.join(unknown)}")
     with kit.files() as folder:
         copy_tracked(folder / "posgame")
         for name in names:

@@ -143,5 +143,4 @@ def files(program: str) -> int:
 
 
 if __name__ == "__main__":
-    raise SystemExit(kit.call_part(__doc__, "posgame", classes=classes, searches=searches,
-                                   files=files))
+    raise SystemExit(kit.call_part(__doc__, "posgame", classes, searches, files))

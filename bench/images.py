@@ -1,6 +1,6 @@
 #!/usr/bin/env python3
-"""Measures what folding saves, and writes docs/IMAGES.md: of each board the nodes of its
-certificate, those that stay plain if it is folded, and what the flag costs.
+"""Measures what folding saves, and writes the table of docs/IMAGES.md: of each board the nodes of
+its certificate, those that stay plain if it is folded, and what the flag costs.
 
     bench/images.py [PROGRAM] [--only WORD] [--out FILE]
 
@@ -12,7 +12,6 @@ lines of 20 points: 0.2 seconds of a processor at most. Unproved.
 from __future__ import annotations
 
 import itertools
-import pathlib
 from typing import Any, Iterator
 
 import kit
@@ -25,22 +24,6 @@ ANIMALS = [
 ]
 COLUMNS = ("board", "result", "nodes", "plain nodes folded", kit.Column("share", ".2f"),
            "instructions", "with images", kit.Column("the flag's cost", ".1%", 0.1))
-HEAD = """\
-# What images save
-
-For each board: the nodes of the certificate that `posgame solve` stores, and how many of them stay
-plain with `--images`; and what the flag costs, in instructions by callgrind.
-
-- If few moves decide a board, the search seldom meets both a position and its image below one
-  claim. So the share is near 1 on such boards.
-- The flag may cost a tenth of what solving costs; bold is more. Folding takes some 4,400
-  instructions a node.
-- If the flag costs less than nothing, printing is why. The printer of certificates with images
-  walks the members of a set. The printer of plain certificates asks for each of 1,024 points, some
-  12,000 instructions a set, so each image saves 24,000.
-- A board may have another number of nodes in docs/BOARDS.md: there its lines come in another order,
-  and the search with them.
-"""
 
 
 def boards() -> Iterator[tuple[str, str]]:
@@ -70,17 +53,17 @@ def heavy_board() -> str:
     return kit.game("maker-breaker", "grid 16 16", *kit.line_rows(sorted(lines)))
 
 
-def measured(program: str, folder: pathlib.Path) -> tuple[list[Any], list[str]]:
+def measured(program: str, text: str) -> tuple[list[Any], list[str]]:
     """The cells of a board, and what is wrong with them."""
-    path, said, costs, wrong, nodes = folder / "game", [], [], [], []
+    said, costs, nodes, wrong = [], [], [], []
     for name, *flags in ("plain",), ("folded", "--images"):
-        words = program, "solve", path, folder / name, *flags
-        said.append(kit.run(*words).output.strip())
-        if not kit.run(program, "check", path, folder / name).is_accepted:
-            wrong.append(f"the {name} one is not accepted")
-        costs.append(kit.count(*words).instructions if kit.has_valgrind() else None)
-        text = (folder / name).read_text() if (folder / name).exists() else ""
-        nodes.append(sum("|" in row and "|image " not in row for row in text.splitlines()))
+        done, stored, is_accepted = kit.solved(program, text, *flags)
+        said.append(done.said)
+        nodes.append(sum("|" in row and "|image " not in row for row in stored.splitlines()))
+        wrong += [] if is_accepted else [f"the {name} one is not accepted"]
+        with kit.files(game=text) as folder:
+            words = program, "solve", folder / "game", folder / "certificate", *flags
+            costs.append(kit.count(*words).instructions if kit.has_valgrind() else None)
     if said[0] != said[1] or not said[0].startswith("result "):
         wrong.append(f"said {' and '.join(said)}")
     share = nodes[1] / nodes[0] if nodes[0] else None
@@ -99,17 +82,13 @@ def fitting_seconds(program: str) -> float:
 
 
 def main() -> int:
-    words = kit.parser(__doc__)
-    words.add_argument("--out", default=kit.TOP / "docs" / "IMAGES.md", help="the file written")
-    words.add_argument("--only", default="", help="boards with this in their name; no file written")
-    given = words.parse_args()
+    given = kit.options(__doc__, out=("", "the file written"),
+                        only=("", "boards with this in their name; no file written"))
     table, sums = kit.Table(*COLUMNS), [0, 0]
-    for name, text in boards():
-        if given.only in name:
-            with kit.files(game=text) as folder:
-                cells, wrong = measured(given.program, folder)
-            table.row(name, *cells, wrong=wrong)
-            sums = [total + (cost or 0) for total, cost in zip(sums, cells[4:6])]
+    for name, text in kit.named(given.only, boards()):
+        cells, wrong = measured(given.program, text)
+        table.row(name, *cells, wrong=wrong)
+        sums = [total + (cost or 0) for total, cost in zip(sums, cells[4:6])]
     seconds = fitting_seconds(given.program)
     if seconds > 0.2:
         table.wrong.append(f"one map: {seconds:.3f} s")
@@ -119,8 +98,8 @@ def main() -> int:
             f"{seconds:.3f} s of a processor."]
     print("", *tail, sep="\n")
     if not given.only:
-        page = [HEAD, *table.lines, "", *tail, "", "Written by `bench/images.py`.", ""]
-        kit.write_page("\n".join(page), given.out)
+        tail = ["", *tail, "", "Written by `bench/images.py`.", ""]
+        kit.write_page([kit.prose("IMAGES.md"), *table.lines, *tail], given, "IMAGES.md")
     return table.end()
 
 

@@ -16,19 +16,23 @@ import itertools
 import math
 import os
 import pathlib
+import random
 import re
-import resource
 import shutil
+import signal
 import subprocess
 import sys
 import tempfile
+import threading
 import time
-from typing import Any, Callable, Iterable, Iterator, NamedTuple, Optional
+from typing import Any, Callable, Iterable, Iterator, NamedTuple, Optional, Sequence
 
 TOP = pathlib.Path(__file__).resolve().parent.parent
 EXAMPLES = TOP / "examples"
 KINDS = {"maker-breaker": "Maker-Breaker", "maker-maker": "Maker-Maker",
          "avoider-enforcer": "Avoider-Enforcer"}
+# The words before the commands on families of games, with which their files begin after a hyphen.
+FAMILIES = "span", "vec"
 
 Line = list[int]
 Edge = tuple[int, int]
@@ -65,18 +69,33 @@ def parser(text: Optional[str], program: Optional[str] = "posgame") -> argparse.
     return words
 
 
-def program(text: Optional[str], name: str = "posgame") -> str:
-    """Returns the program on which a script is run that has no other options."""
-    return str(parser(text, name).parse_args().program)
+def options(text: Optional[str], program: Optional[str] = "posgame", parts: Sequence[str] = (),
+            **more: Any) -> argparse.Namespace:
+    """Returns the arguments of a script: PROGRAM, as `parser` has it, one of the `parts`, if there
+    are any, and for each keyword an option, by its default or by a pair of that and a help. False
+    makes a flag, [] an option that may come several times, and [] and None one of words; else it
+    has the type of the default."""
+    words = parser(text, program)
+    if parts:
+        words.add_argument("part", choices=parts)
+    for name, it in more.items():
+        default, said = it if isinstance(it, tuple) else (it, f"{it} if left out")
+        how: dict[str, Any] = {"action": "store_true"}
+        if default is not False:
+            kind = str if default in (None, []) else type(default)
+            how = {"action": "append" if default == [] else "store", "type": kind,
+                   "metavar": {int: "N", float: "N", str: "WORD"}.get(kind, "PATH")}
+        words.add_argument(f"--{name}", default=default, help=said, **how)
+    return words.parse_args()
 
 
-def call_part(text: Optional[str], name: Optional[str], **parts: Callable[..., Any]) -> int:
-    """Calls the part of a script that its last argument names, on the program `name` if that isn't
-    None; returns the status of the script."""
-    options = parser(text, name)
-    options.add_argument("part", choices=list(parts))
-    given = options.parse_args()
-    return parts[given.part](*[given.program] if name else []) or 0
+def call_part(text: Optional[str], name: Optional[str], *parts: Callable[..., Any],
+              **more: Any) -> int:
+    """Calls the part of a script that its last argument names, with the program `name`, if that
+    isn't None, and with further `options`; returns the status of the script."""
+    given = options(text, name, [it.__name__ for it in parts], **more)
+    part = next(it for it in parts if it.__name__ == given.part)
+    return part(*[given.program] if name else [], *(getattr(given, it) for it in more)) or 0
 
 
 # Runs and their figures.
@@ -90,6 +109,7 @@ class Run(NamedTuple):
     seconds: float
     processor: float
     kilobytes: int
+    errors: str = ""
 
     @property
     def megabytes(self) -> int:
@@ -97,35 +117,66 @@ class Run(NamedTuple):
         return self.kilobytes // 1024
 
     @property
+    def said(self) -> str:
+        """What was printed, without the end of the line."""
+        return self.output.strip()
+
+    @property
     def is_accepted(self) -> bool:
         """Whether it was a check that accepted each claim."""
         return re.fullmatch(r"(accepted .*\n)+", self.output) is not None
 
 
-def run(*words: object, typed: str = "", folder: object = None, most: int = 0) -> Run:
-    """Runs a program with `typed` as its input, for at most `most` processor seconds if that isn't
-    0. It is started by time(1), since a child of this script would count the script's memory."""
-    def limit() -> None:
-        resource.setrlimit(resource.RLIMIT_CPU, (most, most + 1))
-
-    timed = ["/usr/bin/time", "-q", "-f", "%M", *map(str, words)]
-    with tempfile.TemporaryFile("w+") as given, tempfile.TemporaryFile("w+") as errors:
-        given.write(typed)
+def run(*words: object, typed: str | bytes = "", folder: object = None, most: int = 0,
+        clock: int = 0, **how: Any) -> Run:
+    """Runs a program with `typed` as its input, for at most `most` seconds of a processor and
+    `clock` by the clock if these aren't 0. It is started by time(1), since a child of this script
+    would count the script's memory."""
+    timed = ["/usr/bin/time", "-q", "-f", "%M"]
+    timed += ["sh", "-c", f'ulimit -St {most}; exec "$@"', "sh"] if most else []
+    with tempfile.TemporaryFile() as given, tempfile.TemporaryFile("w+") as errors:
+        given.write(typed.encode() if isinstance(typed, str) else typed)
         given.seek(0)
         begin = time.monotonic()
-        process = subprocess.Popen(timed, stdin=given, stdout=subprocess.PIPE, stderr=errors,
-                                   text=True, errors="replace", preexec_fn=limit if most else None,
-                                   cwd=str(folder) if folder else None)
+        process = subprocess.Popen(
+            [*timed, *map(str, words)], cwd=str(folder) if folder else None, stdin=given,
+            stdout=subprocess.PIPE, stderr=errors, start_new_session=clock > 0, **how)
+        late = threading.Timer(clock, os.killpg, (process.pid, signal.SIGKILL))
+        if clock:
+            late.start()
         assert process.stdout
         with process.stdout as stream:
-            output = stream.read()
+            output = stream.read().decode(errors="replace")
         _, ended, used = os.wait4(process.pid, 0)
-        seconds = time.monotonic() - begin
-        process.returncode = os.waitstatus_to_exitcode(ended)
+        late.cancel()
+        seconds, process.returncode = time.monotonic() - begin, os.waitstatus_to_exitcode(ended)
         errors.seek(0)
-        kilobytes = int(errors.read().split()[-1])
+        said = re.fullmatch(r"(.*?)(?:(\d+)\n)?", errors.read(), re.DOTALL)
+        assert said
     status = process.returncode if process.returncode <= 128 else 128 - process.returncode
-    return Run(output, status, seconds, used.ru_utime + used.ru_stime, kilobytes)
+    processor = used.ru_utime + used.ru_stime
+    return Run(output, status, seconds, processor, int(said[2] or 0), said[1])
+
+
+def call(*words: object, **how: Any) -> subprocess.CompletedProcess[Any]:
+    """Runs a command, and returns what it printed, as text; without input, unless `how` has it."""
+    usual: dict[str, Any] = {"input": "", "capture_output": True, "text": True}
+    return subprocess.run([*map(str, words)], **{**usual, **how})
+
+
+def family_of(text: str) -> list[str]:
+    """Returns the word that stands before the commands on a game, if there is one."""
+    return re.findall(f"^posgame-({'|'.join(FAMILIES)})", text, re.MULTILINE)[:1]
+
+
+def solved(program: str, text: str, *flags: object, most: int = 0) -> tuple[Run, str, bool]:
+    """Solves a game. Returns how that ended, what was stored, and whether a check accepts it."""
+    with files(game=text) as folder:
+        paths = folder / "game", folder / "certificate"
+        done = run(program, *family_of(text), "solve", *paths, *flags, most=most)
+        stored = paths[1].read_text(encoding="ascii") if paths[1].exists() else ""
+        check = program, *family_of(text), "check", *paths
+        return done, stored, stored != "" and run(*check, most=most).is_accepted
 
 
 def quickest(times: int, *words: object, **how: Any) -> Run:
@@ -152,7 +203,7 @@ def count(*words: object, counts: object = "/dev/null", typed: str = "",
     """Runs a program below callgrind, which writes its counts by function to `counts`. The figure
     doesn't depend on what else the machine does."""
     command = ["valgrind", "--tool=callgrind", f"--callgrind-out-file={counts}", *flags]
-    done = subprocess.run([*command, *map(str, words)], input=typed, capture_output=True, text=True)
+    done = call(*command, *words, input=typed)
     found = re.search(r"Collected : (\d+)", done.stderr)
     if not found:
         sys.exit(f"callgrind counted nothing of {words}: {done.stderr[-500:]}")
@@ -161,8 +212,7 @@ def count(*words: object, counts: object = "/dev/null", typed: str = "",
 
 def listing(counts: object, *flags: str) -> str:
     """Returns callgrind's list of functions for the counts of a run."""
-    command = ["callgrind_annotate", *flags, str(counts)]
-    return subprocess.run(command, check=True, capture_output=True, text=True).stdout
+    return str(call("callgrind_annotate", *flags, counts, check=True).stdout)
 
 
 # Tables.
@@ -223,6 +273,11 @@ class Table:
         return end(self.wrong)
 
 
+def named(word: str, rows: Iterable[tuple[Any, ...]]) -> Iterator[tuple[Any, ...]]:
+    """Yields the rows in whose name, their first part, a word is."""
+    yield from (it for it in rows if word in it[0])
+
+
 def end(wrong: Iterable[str]) -> int:
     """Prints a line for each thing that is wrong, and returns the status of the script."""
     lines = [f"wrong: {it}" for it in wrong]
@@ -230,12 +285,19 @@ def end(wrong: Iterable[str]) -> int:
     return 1 if lines else 0
 
 
-def write_page(text: str, out: object) -> None:
-    """Writes a page to the file `out`, or prints it if that is empty."""
+def prose(name: str) -> str:
+    """Returns what docs/NAME says above its first table or section."""
+    page = (TOP / "docs" / name).read_text(encoding="utf-8")
+    return re.split(r"\n(?=\| |## )", page, maxsplit=1)[0]
+
+
+def write_page(lines: Iterable[str], given: argparse.Namespace, name: str) -> None:
+    """Writes a page to the file --out, or else to docs/NAME; if --only is given, it is printed."""
+    out = given.out or ("" if given.only else TOP / "docs" / name)
     if out:
-        pathlib.Path(str(out)).write_text(text, encoding="utf-8")
+        pathlib.Path(out).write_text("\n".join(lines), encoding="utf-8")
     else:
-        print(text)
+        print(*lines, sep="\n")
 
 
 # Texts of files.
@@ -271,6 +333,11 @@ def line_rows(lines: Iterable[Iterable[int]]) -> list[str]:
     return [f"line {field(line)}" for line in lines]
 
 
+def mark_rows(*sides: Iterable[int]) -> list[str]:
+    """Returns the rows of a game file for the points of X and of Y."""
+    return [f"{side} {field(sorted(it))}" for side, it in zip("xy", map(set, sides)) if it]
+
+
 def game(kind: str, *rows: str, turn: str = "x") -> str:
     """Returns a game file with these rows between its kind and its turn."""
     return "\n".join(["posgame 1", f"kind {kind}", *rows, f"turn {turn}", ""])
@@ -298,9 +365,9 @@ def claim(head: str, nodes: str, times: int = 1) -> str:
     return f"claim {head}\nnodes {times * nodes.count(chr(10))}\n" + nodes * times
 
 
-def certificate(*claims: str) -> str:
+def certificate(*claims: str, version: int = 1) -> str:
     """Returns a certificate file with these claims."""
-    return "posgame-cert 1\n" + "".join(claims)
+    return f"posgame-cert {version}\n" + "".join(claims)
 
 
 def short_game(kind: str, points: int, lines: Iterable[Iterable[int]]) -> str:
@@ -335,16 +402,24 @@ def scatter(seed: int, points: int, lines: int, size: int) -> list[Line]:
     return drawn
 
 
-def in_row(rows: int, columns: int, length: int) -> list[Line]:
-    """Returns the lines of `length` cells in a row, by their first cell, then by direction: along,
-    down, and both diagonals."""
-    lines = []
-    for i, j, (down, right) in itertools.product(
-            range(rows), range(columns), ((0, 1), (1, 0), (1, 1), (1, -1))):
+def in_row(rows: int, columns: int, length: int, by_direction: bool = False) -> list[Line]:
+    """Returns the lines of `length` cells in a row, by their first cell and then by direction, or
+    the other way round: along, down, and both diagonals."""
+    steps = (0, 1), (1, 0), (1, 1), (1, -1)
+    places, lines = list(itertools.product(steps, range(rows), range(columns))), []
+    if not by_direction:
+        places.sort(key=lambda place: place[1:])
+    for (down, right), i, j in places:
         cells = [(i + down * k, j + right * k) for k in range(length)]
         if all(0 <= a < rows and 0 <= b < columns for a, b in cells):
             lines.append(sorted(a * columns + b for a, b in cells))
     return lines
+
+
+def boards(text: str) -> list[list[Any]]:
+    """Returns the lines of each board, or the edges of each graph, from a text such as 01 123; 0,
+    in which each point is a digit."""
+    return [[tuple(map(int, it)) for it in board.split()] for board in text.split(";")]
 
 
 def turned(cells: Cells) -> list[tuple[tuple[int, int], ...]]:
@@ -402,6 +477,16 @@ def bridge(rows: int) -> Graph:
 def complete(vertices: int, copies: int = 1) -> Graph:
     """Joins each two vertices by so many edges."""
     return vertices, [(u, v) for u in range(vertices) for v in range(u) for _ in range(copies)]
+
+
+def scattered(seed: int, vertices: int, edges: int, is_joined: bool = False) -> Graph:
+    """Draws edges, always the same; to join all vertices, a tree first, and then an order."""
+    draw = random.Random(seed)
+    ends = [(v, draw.randrange(v)) for v in range(1, vertices if is_joined else 1)]
+    ends += [(draw.randrange(vertices), draw.randrange(vertices)) for _ in range(edges - len(ends))]
+    if is_joined:
+        draw.shuffle(ends)
+    return vertices, ends
 
 
 def tops(vertices: int, edges: Iterable[Edge]) -> Line:

@@ -124,7 +124,7 @@ def endings(program: str, library: pathlib.Path, row: Row) -> Iterator[str]:
 
 
 def main() -> int:
-    program, table = kit.program(__doc__), kit.Table("run", "how it ended, by refusals")
+    program, table = kit.options(__doc__).program, kit.Table("run", "how it ended, by refusals")
     with kit.files() as folder:
         library, source = folder / "refusing.so", kit.TOP / "bench" / "refusing.c"
         subprocess.run(["cc", "-shared", "-fPIC", "-o", library, source], check=True)

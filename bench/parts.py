@@ -29,9 +29,6 @@ from typing import Optional
 import kit
 
 POINTS, LONG, ASKS, TRIES = 256, 10, 100, 4_000
-SIDE = 16
-# The step from a line's first point to its next, for one direction after the other.
-STEPS = [1, SIDE, SIDE + 1, SIDE - 1]
 Lines = list[kit.Line]
 Step = Optional[tuple[int, int]]
 
@@ -54,7 +51,7 @@ def board(program: str) -> None:
 
 def threat(program: str) -> None:
     """Measures searches for threat lines."""
-    lines = sorted(kit.in_row(SIDE, SIDE, 5), key=lambda line: STEPS.index(line[1] - line[0]))
+    lines = kit.in_row(16, 16, 5, by_direction=True)
     table = kit.Table("game and way", "instructions a position", "positions", "no reply", "1 reply",
                       "2 replies", "3 replies")
     for way, kind in itertools.product(("walk", "still"), ("maker-breaker", "maker-maker")):
@@ -135,8 +132,8 @@ def climb(draw: random.Random, lines: Lines) -> Lines:
     return lines
 
 
-def families() -> dict[str, Lines]:
-    """The worst family of each kind, by its name."""
+def families() -> list[tuple[str, Lines]]:
+    """The four worst families, by name: the worst of each kind, and one made harder."""
     draw, kinds = random.Random(1963), collections.defaultdict(list)
     for count in (60, 90, 120):
         for width, (name, make) in itertools.product(
@@ -144,17 +141,17 @@ def families() -> dict[str, Lines]:
             kinds[f"{name} {width}"] += [make(draw, count, width) for _ in range(20)]
         for points in (2 * count, POINTS):
             kinds[f"{count} on {points}"] = [anywhere(draw, count, points) for _ in range(20)]
-    greatest = {kind: max(tries, key=passes) for kind, tries in kinds.items()}
-    kind, lines = max(greatest.items(), key=lambda entry: passes(entry[1]))
-    return {**greatest, f"{kind}, made harder": climb(draw, lines)}
+    worst = {kind: max(tries, key=passes) for kind, tries in kinds.items()}
+    kind, lines = max(worst.items(), key=lambda entry: passes(entry[1]))
+    worst[f"{kind}, made harder"] = climb(draw, lines)
+    return sorted(worst.items(), key=lambda entry: -passes(entry[1]))[:4]
 
 
 def match(program: str) -> None:
     """Measures searches for private pairs."""
     table = kit.Table("family", "lines", "points gone over", "pairs", f"instructions, {ASKS} asks",
                       "hits", "cached")
-    ranked = sorted(families().items(), key=lambda entry: -passes(entry[1]))
-    for kind, lines in ranked[:4]:
+    for kind, lines in families():
         with kit.files(game=kit.short_game("maker-breaker", POINTS, lines)) as folder:
             words = program, "match", folder / "game"
             none, asked = kit.count(*words, 0), kit.count(*words, ASKS)
@@ -165,4 +162,4 @@ def match(program: str) -> None:
 
 
 if __name__ == "__main__":
-    raise SystemExit(kit.call_part(__doc__, "bench_parts", board=board, threat=threat, match=match))
+    raise SystemExit(kit.call_part(__doc__, "bench_parts", board, threat, match))

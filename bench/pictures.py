@@ -80,10 +80,8 @@ def refused(program: str, row: str) -> list[str]:
 
 
 def main() -> int:
-    words = kit.parser(__doc__, "posgame_draw")
-    words.add_argument("--out", type=pathlib.Path, default=kit.TOP / "docs" / "pictures",
-                       help="the folder of the pictures")
-    given = words.parse_args()
+    out = kit.TOP / "docs" / "pictures", "the folder of the pictures"
+    given = kit.options(__doc__, "posgame_draw", out=out)
     given.out.mkdir(parents=True, exist_ok=True)
     drawn, others = kit.stanzas("pictures.txt")
     wrong = [small(given.program, row, given.out) for row in drawn]

@@ -17,21 +17,14 @@ from typing import Callable, Iterable, Sequence
 
 import kit
 
-BOARDS = [
-    (3, [(0, 1), (0, 2)]),
-    (5, [(0, 1, 2), (2, 3, 4)]),
-    (5, [(0, 1), (1, 2), (2, 3), (3, 4), (0, 4)]),
-    (6, [(0,), (1, 2, 3), (3, 4, 5)]),
-    (6, [(0, 1, 2), (1, 2, 3), (2, 3, 4), (3, 4, 5), (0, 4, 5)]),
-    (6, [(0, 1, 2), (0, 3, 4), (1, 3, 5), (2, 4, 5)]),
-    (7, [(0, 1, 2), (0, 3, 4), (0, 5, 6), (1, 3, 5), (1, 4, 6), (2, 3, 6), (2, 4, 5)]),
-    (7, [(0, 1), (0, 2, 3), (2, 4, 5), (2, 4, 6)]),
-]
+BOARDS = kit.boards(
+    "01 02; 012 234; 01 12 23 34 04; 0 123 345; 012 123 234 345 045; 012 034 135 245;"
+    "012 034 056 135 146 236 245; 01 023 245 246")
 
 
-def depths(game: kit.LineGame) -> list[int]:
+def depths(kind: str, lines: list[tuple[int, ...]]) -> list[int]:
     """How many positions have a shortest threat line of each length, and how many have none."""
-    found = [0] * 5
+    game, found = kit.LineGame(kind, 1 + max(map(max, lines)), lines), [0] * 5
     for x, y in kit.marked(game.points):
         if game.score(x, y) is None:
             for own, foe in [(x, y), (y, x)] if game.kind == "maker-maker" else [(x, y)]:
@@ -84,9 +77,9 @@ def vectors(count: int, has_marks: bool = True) -> str:
 
 
 if __name__ == "__main__":
-    kit.parser(__doc__, None).parse_args()
+    kit.options(__doc__, None)
     for kind, name in (("maker-breaker", "maker and breaker"), ("maker-maker", "maker and maker")):
-        rows = (kit.field(depths(kit.LineGame(kind, *board))) + " 0;" for board in BOARDS)
+        rows = (kit.field(depths(kind, lines)) + " 0;" for lines in BOARDS)
         print(f"{name}:", "".join(rows))
     for vertices, limit in ((2, 6), (3, 6), (4, 5)):
         print(vertices, "vertices:", "".join(connectivity(vertices, it) for it in range(limit)))

@@ -62,7 +62,7 @@ def kind_of(points: int, lines: list[kit.Line], taken: set[int], own: set[int]) 
     return "short" if is_enough else "few"
 
 
-def print_families() -> None:
+def families() -> None:
     """Prints as many families of each kind as are due."""
     draw = random.Random(1935)
     due = {"plain": ROWS // 4, "blocked": ROWS // 4, "short": ROWS // 2 - 4, "few": 4}
@@ -76,7 +76,7 @@ def print_families() -> None:
             print(row, *(kit.field(sorted(it)) for it in marks), answer, sep=":")
 
 
-def print_counts() -> None:
+def counts() -> None:
     """Prints how often each polyomino is among the connected sets of each board."""
     for size in (4, 5):
         boards = []
@@ -87,8 +87,8 @@ def print_counts() -> None:
                 sets = {it | {cell} for it in sets for cell in kit.beside(it) & cells}
             boards.append(collections.Counter(min(kit.turned(shape)) for shape in sets))
         for shape in sorted(set().union(*boards)):
-            print(f"{kit.word_of(shape)}:{','.join(str(counts[shape]) for counts in boards)}")
+            print(f"{kit.word_of(shape)}:{','.join(str(board[shape]) for board in boards)}")
 
 
 if __name__ == "__main__":
-    raise SystemExit(kit.call_part(__doc__, None, families=print_families, counts=print_counts))
+    raise SystemExit(kit.call_part(__doc__, None, families, counts))

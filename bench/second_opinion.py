@@ -15,11 +15,12 @@ from __future__ import annotations
 import collections
 import concurrent.futures
 import itertools
+import math
 import os
 import pathlib
 import sys
 import time
-from typing import Counter, Iterator, List, NamedTuple
+from typing import Counter, Iterator
 
 import kit
 
@@ -33,22 +34,17 @@ BATCH = 100
 POSITIONS = 300
 SIZES = [("maker-breaker", 1), ("maker-maker", 1), ("avoider-enforcer", 1), ("maker-breaker", 2),
          ("avoider-enforcer", 2)]
-ROWS = [[0, 1, 2], [3, 4, 5], [6, 7, 8], [0, 3, 6], [1, 4, 7], [2, 5, 8], [0, 4, 8], [2, 4, 6]]
+# How many pairs of a batch got each verdict, and those on which the two differ.
+Compared = tuple[Counter[str], list[beside.Comparison]]
 
 
-class Compared(NamedTuple):
-    """How many pairs of a batch got each verdict, and those on which the two differ."""
-
-    counts: Counter[str]
-    differing: List[beside.Comparison]
-
-
-def solved_pairs() -> List[beside.Pair]:
+def solved_pairs() -> list[beside.Pair]:
     """Returns pairs that the program writes: each kind on small boards, with images and without,
     and games on graphs and vectors."""
     games = [Game.from_grid(3, 3, "11/10", kind=kind, bias=bias, turn=turn)
              for kind, bias in SIZES for turn in "xy"]
-    games += [Game.from_grid(3, 3, lines=ROWS, kind=kind, bias=bias) for kind, bias in SIZES]
+    rows = kit.in_row(3, 3, 3, by_direction=True)
+    games += [Game.from_grid(3, 3, lines=rows, kind=kind, bias=bias) for kind, bias in SIZES]
     tries = [(game, images) for game in games for images in (False, True)]
     edges = list(itertools.combinations(range(4), 2))
     tries += [(Game.from_graph(edges[leave:], ends, turn, x=edges[leave:leave + 1]), False)
@@ -61,20 +57,20 @@ def solved_pairs() -> List[beside.Pair]:
             for number, (game, solution) in enumerate(solutions) if solution.certificate]
 
 
-def pairs_of(folder: pathlib.Path) -> List[beside.Pair]:
+def pairs_of(folder: pathlib.Path) -> list[beside.Pair]:
     """Returns the pairs NAME.game and NAME.cert of a folder."""
     return [beside.Pair(game.read_bytes(), game.with_suffix(".cert").read_bytes(), game.stem)
             for game in sorted(folder.glob("*.game")) if game.with_suffix(".cert").is_file()]
 
 
-def compare(pairs: List[beside.Pair]) -> Compared:
+def compare(pairs: list[beside.Pair]) -> Compared:
     """Compares the verdicts on a batch of pairs."""
-    compared = Compared(collections.Counter(), [])
+    counts, differing = collections.Counter[str](), []
     for one in beside.comparisons(pairs):
         words = one.again.lines[0].split()
-        compared.counts[words[0] if one.again.status == 0 else " ".join(words[:2])] += 1
-        compared.differing.extend([one] if one.differs else [])
-    return compared
+        counts[words[0] if one.again.status == 0 else " ".join(words[:2])] += 1
+        differing += [one] if one.differs else []
+    return counts, differing
 
 
 def all_compared(pairs: Iterator[beside.Pair], jobs: int, end: float) -> Iterator[Compared]:
@@ -92,7 +88,7 @@ def all_compared(pairs: Iterator[beside.Pair], jobs: int, end: float) -> Iterato
                 yield future.result()
 
 
-def keep(folder: pathlib.Path, differing: List[beside.Comparison]) -> None:
+def keep(folder: pathlib.Path, differing: list[beside.Comparison]) -> None:
     """Stores the files of pairs on which the two differ."""
     folder.mkdir(parents=True, exist_ok=True)
     for number, one in enumerate(differing):
@@ -102,23 +98,18 @@ def keep(folder: pathlib.Path, differing: List[beside.Comparison]) -> None:
 
 def main() -> int:
     """Compares the pairs as they are, and then damaged ones in batches."""
-    words = kit.parser(__doc__)
-    words.add_argument("--count", type=int, default=20_000, help="how many damaged pairs")
-    words.add_argument("--seed", type=int, default=1)
-    words.add_argument("--jobs", type=int, default=os.cpu_count())
-    words.add_argument("--minutes", type=float, default=float("inf"))
-    words.add_argument("--folder", type=pathlib.Path)
-    words.add_argument("--keep", type=pathlib.Path)
-    options = words.parse_args()
+    options = kit.options(__doc__, count=(20_000, "how many damaged pairs"), seed=1,
+                          jobs=os.cpu_count(), minutes=math.inf,
+                          folder=(None, "with further pairs"), keep=(None, "for those that differ"))
     os.environ["POSGAME"] = options.program
     start = time.monotonic()
     pairs = beside.example_pairs() + solved_pairs()
-    pairs += pairs_of(options.folder) if options.folder else []
-    counts, differing = collections.Counter[str](), compare(pairs).differing
+    pairs += pairs_of(pathlib.Path(options.folder)) if options.folder else []
+    counts, differing = collections.Counter[str](), compare(pairs)[1]
     damaged = itertools.islice(beside.damaged_pairs(pairs, options.seed), options.count)
-    for compared in all_compared(damaged, options.jobs, start + 60 * options.minutes):
-        counts.update(compared.counts)
-        differing += compared.differing
+    for more, others in all_compared(damaged, options.jobs, start + 60 * options.minutes):
+        counts.update(more)
+        differing += others
         print(f"{sum(counts.values()):,} of {options.count:,} compared, {len(differing)} differ, "
               f"{time.monotonic() - start:.0f} s", file=sys.stderr, flush=True)
     print(*differing, sep="\n", end="\n" if differing else "")
@@ -126,7 +117,7 @@ def main() -> int:
           f"verdicts differ; {time.monotonic() - start:.0f} s")
     print(", ".join(f"{verdict} {count}" for verdict, count in sorted(counts.items())))
     if options.keep and differing:
-        keep(options.keep, differing)
+        keep(pathlib.Path(options.keep), differing)
     return 1 if differing else 0
 
 

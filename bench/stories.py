@@ -1,7 +1,7 @@
 #!/usr/bin/env python3
 """Prints lines of crates/test_stories/stdin on small games, or counts them by value.
 
-    bench/stories.py [lines | counts | reviews | names]
+    bench/stories.py lines | counts | reviews | names
 
 lines: the lines `value` and `pair`. There are 300 games with a point a turn, the first 120 of them
 with two points for Y except in Maker-Maker, 200 with two or three points for Y and without marks,
@@ -17,49 +17,40 @@ from __future__ import annotations
 
 import itertools
 import random
-from typing import Iterator, NamedTuple, Optional
+from typing import Iterator, Optional
 
 import kit
 
-KINDS = {"mb": "maker-breaker", "ae": "avoider-enforcer", "xyd": "maker-maker"}
+# The kinds in the order in which they are drawn, with the letters for the scores 0, 1 and -1.
+LETTERS = {"maker-breaker": "-mb", "avoider-enforcer": "-ae", "maker-maker": "dxy"}
+KINDS = list(LETTERS)
 WORDS = {"m": "maker x", "b": "breaker y", "a": "avoider x", "e": "enforcer y",
          "x": "x x", "y": "y y", "d": "draw -"}
 OTHER = {"x": "y", "y": "x"}
-# Noughts and crosses, and the words for the scores 0, 1 and -1.
-SQUARE = {kind: kit.LineGame(kind, 9, kit.in_row(3, 3, 3)) for kind in sorted(kit.KINDS)}
-SCORES = {"maker-breaker": ("draw", "maker", "breaker"), "maker-maker": ("draw", "x", "y"),
-          "avoider-enforcer": ("draw", "avoider", "enforcer")}
+SQUARE = {kind: kit.LineGame(kind, 9, kit.in_row(3, 3, 3)) for kind in KINDS}
+Marks = list[Optional[str]]
 
 
-class Game(NamedTuple):
-    """The letters for X's win, Y's win and a draw, who owns each point, and Y's points a turn."""
+def letter(board: kit.LineGame, position: kit.Position) -> str:
+    """The letter of the value of a position."""
+    return LETTERS[board.kind][board.value(*position)]
 
-    kind: str
-    lines: list[set[int]]
-    marks: list[Optional[str]]
-    turn: str
-    bias: int
 
-    def taken(self, side: str) -> kit.Points:
-        """The points of a side."""
-        return frozenset(v for v, mark in enumerate(self.marks) if mark == side)
+def board_rows(board: kit.LineGame) -> str:
+    """The rows of the file on points and lines."""
+    rows = [f"points {board.points}"] + [f"bias {board.bias}"] * (board.bias > 1)
+    return ";".join(rows + kit.line_rows(map(sorted, board.lines)))
 
-    def value(self) -> str:
-        """The letter of the value."""
-        board = kit.LineGame(KINDS[self.kind], len(self.marks), self.lines, self.bias)
-        left = self.bias if self.turn == "y" else 1
-        score = board.value(self.taken("x"), self.taken("y"), self.turn, left)
-        return self.kind[{1: 0, -1: 1, 0: 2}[score]]
 
-    def board(self) -> str:
-        """The rows of the file on points and lines."""
-        rows = [f"points {len(self.marks)}"] + [f"bias {self.bias}"] * (self.bias > 1)
-        return ";".join(rows + kit.line_rows(map(sorted, self.lines)))
+def position_rows(x: kit.Points, y: kit.Points, turn: str, _: int) -> str:
+    """The rows of the file on marks and the side to move."""
+    return ";".join(kit.mark_rows(x, y) + [f"turn {turn}"])
 
-    def position(self) -> str:
-        """The rows of the file on marks and the side to move."""
-        rows = [f"{it} {kit.field(sorted(self.taken(it)))}" for it in "xy" if it in self.marks]
-        return ";".join(rows + [f"turn {self.turn}"])
+
+def position(board: kit.LineGame, marks: Marks, turn: str) -> kit.Position:
+    """The position in which each point has its mark."""
+    x, y = (frozenset(v for v, mark in enumerate(marks) if mark == side) for side in "xy")
+    return x, y, turn, board.bias if turn == "y" else 1
 
 
 def drawn_lines(draws: kit.Draws, points: int, most: int) -> list[set[int]]:
@@ -68,129 +59,134 @@ def drawn_lines(draws: kit.Draws, points: int, most: int) -> list[set[int]]:
             for _ in range(draws.below(most) + 1)]
 
 
-def drawn_marks(draws: kit.Draws, points: int, limit: int) -> list[Optional[str]]:
+def drawn_marks(draws: kit.Draws, points: int, limit: int) -> Marks:
     """For each point X's mark, Y's, or none, by a number below the limit."""
     return [{0: "x", 1: "y"}.get(draws.below(limit)) for _ in range(points)]
 
 
-def game(number: int, bias: int) -> Game:
+def game(number: int, bias: int) -> tuple[kit.LineGame, kit.Position]:
     """A game of three to six points with marks."""
     draws = kit.Draws(number)
-    points, kind = draws.below(4) + 3, list(KINDS)[number % 3]
+    points, kind = draws.below(4) + 3, KINDS[number % 3]
     lines, marks = drawn_lines(draws, points, 6), drawn_marks(draws, points, 10)
-    return Game(kind, lines, marks, "xy"[draws.below(2)], 1 if kind == "xyd" else bias)
+    board = kit.LineGame(kind, points, lines, 1 if kind == "maker-maker" else bias)
+    return board, position(board, marks, "xy"[draws.below(2)])
 
 
-def biased_game(number: int) -> Game:
+def biased_game(number: int) -> tuple[kit.LineGame, kit.Position]:
     """A game of four to six points without marks, with two or three points for Y."""
     draws = kit.Draws(number)
     points = draws.below(3) + 4
-    lines, turn = drawn_lines(draws, points, 10), "xy"[draws.below(2)]
-    return Game(list(KINDS)[number % 2], lines, [None] * points, turn, 2 + number // 2 % 2)
+    lines = drawn_lines(draws, points, 10)
+    board = kit.LineGame(KINDS[number % 2], points, lines, 2 + number // 2 % 2)
+    return board, position(board, [], "xy"[draws.below(2)])
 
 
-def drawn_pair(number: int) -> tuple[Game, Game]:
+def drawn_pair(number: int) -> tuple[kit.LineGame, kit.Position, kit.Position]:
     """Two positions of a Maker-Breaker game."""
     draws = kit.Draws(number)
     points = draws.below(3) + 4
     lines = drawn_lines(draws, points, 6)
     turn, worse = "xy"[draws.below(2)], "xy"[draws.below(2)]
-    one = Game("mb", lines, drawn_marks(draws, points, 8), turn, 1 + number % 3)
+    board = kit.LineGame(KINDS[0], points, lines, 1 + number % 3)
+    marks = drawn_marks(draws, points, 8)
     sides = [{**dict.fromkeys(range(8), worse), 23: OTHER[worse]}.get(draws.below(24))
              for _ in range(points)]
-    marks = [mark if side is None else None if mark == side else OTHER[side]
-             for mark, side in zip(one.marks, sides)]
-    return one, one._replace(marks=marks, turn=turn if draws.below(12) else OTHER[turn])
+    others = [mark if side is None else None if mark == side else OTHER[side]
+              for mark, side in zip(marks, sides)]
+    other_turn = turn if draws.below(12) else OTHER[turn]
+    return board, position(board, marks, turn), position(board, others, other_turn)
 
 
-def pair(first: Game, second: Game) -> str:
+GAMES = [game(number, bias) for bias, count in ((1, 300), (2, 120)) for number in range(count)]
+GAMES += map(biased_game, range(200))
+PAIRS = list(map(drawn_pair, range(200)))
+
+
+def pair(board: kit.LineGame, first: kit.Position, second: kit.Position) -> str:
     """The letter of a pair of positions."""
-    letter = second.value()
-    winner = {"m": "x", "b": "y"}[letter]
-    is_no_worse = first.turn == second.turn and all(
-        mark in (other, winner) or other == OTHER[winner] and mark is None
-        for mark, other in zip(first.marks, second.marks))
-    assert not is_no_worse or first.value() == letter
-    return letter if is_no_worse else winner
+    value = letter(board, second)
+    winner, loser = {"m": (0, 1), "b": (1, 0)}[value]
+    is_no_worse = (first[winner] >= second[winner] and first[loser] <= second[loser]
+                   and first[2] == second[2])
+    assert not is_no_worse or letter(board, first) == value
+    return value if is_no_worse else "xy"[winner]
 
 
-def pair_line(first: Game, second: Game) -> str:
+def pair_line(board: kit.LineGame, first: kit.Position, second: kit.Position) -> str:
     """The line of a pair of positions."""
-    letter = pair(first, second)
-    word, side = WORDS[letter].split() if letter in "mb" else ("rejected", letter)
-    x, y = (kit.field(sorted(first.taken(it))) for it in "xy")
-    left = f"y{first.bias}" if first.turn == "y" and first.bias > 1 else first.turn
-    positions = f"{first.position()}={second.position()}"
-    return f"pair {word} {first.turn} {side} win={first.board()}={positions}={x}|{y}|{left}|"
+    value = pair(board, first, second)
+    word, side = WORDS[value].split() if value in "mb" else ("rejected", value)
+    x, y, turn, left = kit.field(sorted(first[0])), kit.field(sorted(first[1])), *first[2:]
+    body = f"{x}|{y}|{turn}{left if left > 1 else ''}|"
+    positions = f"{position_rows(*first)}={position_rows(*second)}"
+    return f"pair {word} {turn} {side} win={board_rows(board)}={positions}={body}"
 
 
-def drawn_record(chance: random.Random) -> tuple[kit.LineGame, list[str], list[kit.Position]]:
-    """Noughts and crosses, the events of a record, and the positions on its way."""
-    board = SQUARE[chance.choice(sorted(SQUARE))]
-    points = chance.sample(range(9), chance.choice([0, 0, 0, 2, 3]))
+def drawn_record(number: int) -> tuple[str, kit.LineGame, list[str], list[kit.Position]]:
+    """A review of noughts and crosses: its name, the game, the events, and the positions."""
+    board = SQUARE[CHANCE.choice(sorted(SQUARE))]
+    points = CHANCE.sample(range(9), CHANCE.choice([0, 0, 0, 2, 3]))
     half = (len(points) + 1) // 2
     events = []
-    trail = [(frozenset(points[:half]), frozenset(points[half:]), chance.choice("xy"), 1)]
-    for _ in range(chance.randint(1, 14)):
-        if len(trail) > 1 and chance.random() < 0.25:
+    trail = [(frozenset(points[:half]), frozenset(points[half:]), CHANCE.choice("xy"), 1)]
+    for _ in range(CHANCE.randint(1, 14)):
+        if len(trail) > 1 and CHANCE.random() < 0.25:
             trail.pop()
             events.append("back")
         elif board.score(*trail[-1][:2]) is None:
-            v = chance.choice(board.free(*trail[-1][:2]))
+            v = CHANCE.choice(board.free(*trail[-1][:2]))
             trail.append(board.after(*trail[-1], v))
             events.append(f"move {v}")
         else:
             break
-    return board, events, trail
+    return f"a review of noughts and crosses, {number}: {board.kind}", board, events, trail
+
+
+CHANCE = random.Random(20261128)
+RECORDS = list(map(drawn_record, range(1, 201)))
 
 
 def losses(board: kit.LineGame, trail: list[kit.Position]) -> Iterator[str]:
     """The lines on moves that lost value."""
-    words = SCORES[board.kind]
     for number, (p, q) in enumerate(zip(trail, trail[1:])):
         before, now = board.value(*p), board.value(*q)
         if (now < before) if p[2] == "x" else (now > before):
-            point = next(iter((q[0] | q[1]) - (p[0] | p[1])))
-            yield f"says lost {number} {point} {words[before]} {words[now]}"
+            point, = (q[0] | q[1]) - (p[0] | p[1])
+            words = [WORDS[letter(board, it)].split()[0] for it in (p, q)]
+            yield f"says lost {number} {point} {kit.field(words)}"
 
 
-def print_reviews(has_rows: bool) -> None:
-    """Prints the reviews, or what test_stories says of them."""
-    chance = random.Random(20261128)
-    for number in range(1, 201):
-        board, events, trail = drawn_record(chance)
-        name = f"a review of noughts and crosses, {number}: {board.kind}"
-        if not has_rows:
-            print(f"ok {name}")
-            continue
-        marks = "".join(f"{sign} {kit.field(sorted(points))}; "
-                        for sign, points in zip("xy", trail[0]) if points)
-        print(f"\nrow {name}\nfile G posgame 1; kind {board.kind}; @three; {marks}turn "
-              f"{trail[0][2]};\nfile R", *(f"{it};" for it in ["posgame-record 1", *events]))
+def names() -> None:
+    """Prints what test_stories says of the reviews."""
+    for name, *_ in RECORDS:
+        print(f"ok {name}")
+
+
+def reviews() -> None:
+    """Prints the rows of the reviews."""
+    for name, board, events, trail in RECORDS:
+        begin = position_rows(*trail[0]).replace(";", "; ")
+        print(f"\nrow {name}\nfile G posgame 1; kind {board.kind}; @three; {begin};\nfile R",
+              *(f"{it};" for it in ["posgame-record 1", *events]))
         print("run review G R\nstatus 0", *losses(board, trail), sep="\n")
         print(f"says reviewed {len(trail) - 1}")
 
 
-def print_values(has_lines: bool) -> None:
-    """Prints the lines of games and of pairs, or how many have each value."""
-    games = [game(number, bias) for bias, count in ((1, 300), (2, 120)) for number in range(count)]
-    games += map(biased_game, range(200))
-    pairs = list(map(drawn_pair, range(200)))
-    if has_lines:
-        for it in games:
-            rows = f"kind {KINDS[it.kind]};{it.board()};{it.position()};"
-            print(f"value {WORDS[it.value()]}={rows}")
-        print(*itertools.starmap(pair_line, pairs), sep="\n")
-        return
-    for name, letters, found in (("games", "mbaexyd", [it.value() for it in games]),
-                                 ("pairs", "mbxy", [pair(*it) for it in pairs])):
-        print(f"{name}:", *(f"{letter} {found.count(letter)}" for letter in letters))
+def lines() -> None:
+    """Prints the lines of games and of pairs."""
+    for board, place in GAMES:
+        rows = f"kind {board.kind};{board_rows(board)};{position_rows(*place)};"
+        print(f"value {WORDS[letter(board, place)]}={rows}")
+    print(*itertools.starmap(pair_line, PAIRS), sep="\n")
+
+
+def counts() -> None:
+    """Prints how many games and pairs have each value."""
+    for name, letters, found in (("games", "mbaexyd", [*itertools.starmap(letter, GAMES)]),
+                                 ("pairs", "mbxy", [*itertools.starmap(pair, PAIRS)])):
+        print(f"{name}:", *(f"{it} {found.count(it)}" for it in letters))
 
 
 if __name__ == "__main__":
-    words = kit.parser(__doc__, None)
-    words.add_argument("what", nargs="?", choices=["lines", "counts", "reviews", "names"],
-                       default="lines")
-    what = words.parse_args().what
-    show = print_values if what in ("lines", "counts") else print_reviews
-    show(what in ("lines", "reviews"))
+    raise SystemExit(kit.call_part(__doc__, None, lines, counts, reviews, names))

@@ -3,13 +3,16 @@ hand, or are those of a well-known game. Unproved.
 """
 from __future__ import annotations
 
+import argparse
 import contextlib
 import io
 import itertools
 import os
+import pathlib
 import sys
 import unittest
 from typing import Callable
+from unittest import mock
 
 import kit
 
@@ -20,6 +23,31 @@ def printed(call: Callable[[], object]) -> tuple[object, list[str]]:
     with contextlib.redirect_stdout(output):
         result = call()
     return result, output.getvalue().splitlines()
+
+
+class Options(unittest.TestCase):
+    def options(self, *words: str, **more: object) -> argparse.Namespace:
+        with mock.patch.object(sys, "argv", ["script", *words]):
+            return kit.options("Tries options.", None, **more)
+
+    def test_defaults_and_types(self) -> None:
+        more = {"runs": 20, "quick": False, "only": [], "keep": None, "out": (kit.TOP, "a file")}
+        self.assertEqual(vars(self.options(**more)), {
+            "runs": 20, "quick": False, "only": [], "keep": None, "out": kit.TOP})
+        given = "--runs 3 --quick --only a --only b --keep c --out d".split()
+        self.assertEqual(vars(self.options(*given, **more)), {
+            "runs": 3, "quick": True, "only": ["a", "b"], "keep": "c", "out": pathlib.Path("d")})
+
+    def test_parts(self) -> None:
+        def one(word: str) -> int:
+            return int(word)
+
+        def two(word: str) -> None:
+            self.assertEqual(word, "5")
+
+        for part, status in ("one", 5), ("two", 0):
+            with mock.patch.object(sys, "argv", ["script", part, "--word", "5"]):
+                self.assertEqual(kit.call_part("Tries parts.", None, one, two, word=""), status)
 
 
 class Tables(unittest.TestCase):
@@ -40,6 +68,10 @@ class Tables(unittest.TestCase):
             "| 7 | - | 1 | 100% |", "wrong: slow: s 1.50 above 1.00",
             "wrong: slow: nodes 3 above 2", "wrong: 7: refused"])
 
+    def test_named(self) -> None:
+        rows = [("a board", 1), ("another", 2), ("a graph", 3)]
+        self.assertEqual([it[1] for it in kit.named("a ", rows)], [1, 3])
+
     def test_nothing_wrong(self) -> None:
         table = printed(lambda: kit.Table("a", "b").end())
         self.assertEqual(table, (0, ["| a | b |", "|---|---|"]))
@@ -58,9 +90,26 @@ class Runs(unittest.TestCase):
     def test_signal(self) -> None:
         self.assertEqual(self.python("import os; os.kill(os.getpid(), 9)").status, -9)
 
-    def test_processor_limit(self) -> None:
-        done = self.python("while True: pass", most=1)
-        self.assertLess(done.status, 0)
+    def test_limits(self) -> None:
+        self.assertLess(self.python("while True: pass", most=1).status, 0)
+        late = self.python("import time; time.sleep(9)", clock=1)
+        self.assertEqual((late.status, late.seconds < 9), (-9, True))
+
+    def test_errors_and_bytes(self) -> None:
+        done = self.python("import sys; sys.stderr.write(ascii(sys.stdin.buffer.read()))",
+                           typed=b"\xff7", clock=9)
+        self.assertEqual((done.errors, done.output, done.status), ("b'\\xff7'", "", 0))
+        self.assertGreater(done.kilobytes, 1000)
+
+    def test_solved(self) -> None:
+        script = """#!/bin/sh
+            [ $1 = span ] || exit 9
+            [ $2 = solve ] && echo stored > "$4" && echo class maker
+            [ $2 = check ] && echo accepted x y win"""
+        with kit.files(program=script) as folder:
+            (folder / "program").chmod(0o755)
+            done, stored, is_accepted = kit.solved(str(folder / "program"), kit.span((2, [])))
+        self.assertEqual((done.said, stored, is_accepted), ("class maker", "stored\n", True))
 
     def test_folder_and_files(self) -> None:
         with kit.files(one="1\n", two="22\n") as folder:
@@ -86,6 +135,15 @@ class Texts(unittest.TestCase):
         self.assertEqual(kit.short_game("maker-maker", 3, [(0, 1), (2,)]),
                          "maker-maker 3 x 1:0 1,2::\n")
 
+    def test_families(self) -> None:
+        for text, words in (("posgame 1\n", []), ("# a\nposgame-span 1\n", ["span"]),
+                            ("posgame-vectors 1\n", ["vec"])):
+            self.assertEqual(kit.family_of(text), words)
+
+    def test_marks(self) -> None:
+        self.assertEqual(kit.mark_rows({5, 2}, [7]), ["x 2 5", "y 7"])
+        self.assertEqual(kit.mark_rows([], [7]), ["y 7"])
+
     def test_certificate(self) -> None:
         text = kit.certificate(kit.claim("x y win", "||x|pairs 0-1\n", 2))
         due = "posgame-cert 1\nclaim x y win\nnodes 2\n" + "||x|pairs 0-1\n" * 2
@@ -102,6 +160,12 @@ class Boards(unittest.TestCase):
         lines = ["012", "036", "048", "147", "246", "258", "345", "678"]
         self.assertEqual(sorted("".join(map(str, it)) for it in kit.in_row(3, 3, 3)), lines)
         self.assertEqual(len(kit.in_row(16, 16, 5)), 2 * 16 * 12 + 2 * 12 * 12)
+        by_direction = ["012", "345", "678", "036", "147", "258", "048", "246"]
+        lines = kit.in_row(3, 3, 3, by_direction=True)
+        self.assertEqual(["".join(map(str, it)) for it in lines], by_direction)
+
+    def test_digits(self) -> None:
+        self.assertEqual(kit.boards("; 01 123; 0"), [[], [(0, 1), (1, 2, 3)], [(0,)]])
 
     def test_shapes(self) -> None:
         self.assertEqual(kit.placements(2, 2, "11"), [[0, 1], [0, 2], [1, 3], [2, 3]])
@@ -117,6 +181,9 @@ class Boards(unittest.TestCase):
         self.assertEqual(len(kit.complete(5, 3)[1]), 30)
         self.assertEqual(len(kit.grid(3, 4)[1]), 17)
         self.assertEqual(len(kit.doubled_path(5, 10)[1]), 10)
+        vertices, ends = kit.scattered(1, 9, 20, is_joined=True)
+        self.assertEqual((len(ends), set(kit.tops(vertices, ends))), (20, {kit.tops(9, ends)[0]}))
+        self.assertEqual(len(kit.scattered(1, 9, 20)[1]), 20)
 
     def test_draws(self) -> None:
         # The first numbers of the generator in the standard of C, from the seed 1.

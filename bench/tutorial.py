@@ -23,11 +23,9 @@ from __future__ import annotations
 import pathlib
 import re
 import shlex
-import subprocess
 from typing import Optional
 
 import kit
-import width
 
 CONTENTS = kit.TOP / "docs" / "TUTORIAL.md"
 LESSONS = kit.TOP / "docs" / "tutorial"
@@ -62,8 +60,7 @@ class Walk:
         below = ["".join(below)] if words[0] == "report" else below
         expected = [line for line in below if line.startswith(TEXTS)]
         typed = "".join(f"{line}\n" for line in below if not line.startswith(TEXTS))
-        ended = subprocess.run([self.program, *words], cwd=self.folder, input=typed,
-                               capture_output=True, text=True)
+        ended = kit.call(self.program, *words, cwd=self.folder, input=typed)
         self.status = ended.returncode
         self.compare(command, ended.stdout.splitlines() == expected)
 
@@ -73,7 +70,7 @@ class Walk:
             self.not_drawn += 1
             return
         words = shlex.split(command)
-        ended = subprocess.run([self.picture, *words[1:-2]], cwd=self.folder, capture_output=True)
+        ended = kit.call(self.picture, *words[1:-2], cwd=self.folder, text=False)
         (self.folder / words[-1]).write_bytes(ended.stdout)
         self.status = ended.returncode
         is_picture = ended.stdout.startswith(b"<svg ") and ended.returncode in (0, 4)
@@ -110,15 +107,13 @@ class Walk:
 
 
 def form_problems(path: pathlib.Path) -> list[str]:
-    """Returns what is wrong with the length, the widths and the links of a page."""
-    text, name = path.read_text(encoding="utf-8"), path.relative_to(kit.TOP).as_posix()
+    """Returns what is wrong with the length and the links of a page, of which bench/width.py knows
+    the widths."""
+    text = path.read_text(encoding="utf-8")
     count = len(text.splitlines())
     problems = [f"{count} lines"] if count > LENGTH else []
-    problems += [f"line {at} has {columns} characters"
-                 for at, columns in width.too_long(name, "docs")]
-    dead = [it for it in LINK.findall(text) if not (path.parent / it).exists()]
-    problems += [f"there is no {it}" for it in dead]
-    return [f"{name}: {it}" for it in problems]
+    problems += [f"no {it}" for it in LINK.findall(text) if not (path.parent / it).exists()]
+    return [f"{path.relative_to(kit.TOP)}: {it}" for it in problems]
 
 
 def contents_problems(paths: list[pathlib.Path]) -> list[str]:
