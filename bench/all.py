@@ -29,8 +29,8 @@ import kit
 BENCHES = {
     "Switching games classed and solved": "games.py classes",
     "Searches": "games.py searches",
-    "Connectivity games and games on vectors": "families.py",
-    "Large certificates checked": "checking.py",
+    "Connectivity games and games on vectors": "games.py families",
+    "Large certificates checked": "games.py certificates",
     "Large game files": "games.py files",
     "Plays with their undo on a board": "parts.py board",
     "Searches for threat lines": "parts.py threat",

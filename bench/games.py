@@ -1,32 +1,36 @@
 #!/usr/bin/env python3
-"""Measures posgame on large games: instructions, seconds and memory.
+"""Measures posgame on large games and certificates: instructions, seconds and memory.
 
-    bench/games.py [PROGRAM] classes | searches | files
+    bench/games.py [PROGRAM] classes | searches | families | certificates | files [--only WORD]
 
-classes: what it takes to class large switching games. Each is solved once under callgrind, which
-counts the instructions of `classify` and of the whole run, and once by itself; the certificate that
-is stored must be accepted.
+Instructions are counted by callgrind; searches and certificates are measured without it too. What
+reading a game takes is measured by a check of an empty certificate.
 
-searches: five boards are solved once under callgrind, where that is installed, and once by itself.
-What reading takes is counted by a check of an empty certificate. The functions that take most of a
-count above its limit are printed.
+classes: large switching games are solved. The instructions are those of `classify`, and of the
+whole run. The certificate that is stored must be accepted.
 
-files: how long it takes to read the largest game files, by a check of an empty certificate. Others
-of as many lines and points are made by posgame itself, and then read in the same way. Unproved.
+searches: five boards are solved. The functions that take most of a count above its limit are shown.
+
+families: connectivity games and games on vectors are solved, what is stored is checked, and the
+side that wins is played against replies that go round the points. What reading takes is subtracted.
+Of the player's moves, each with the reply before it, the dearest is shown. The vectors of a
+Bridg-it board must have the class of the board.
+
+certificates: large ones are checked, reading included, and their instructions counted on a smaller
+file of the same kind. Two are read for a game that has no such points, and so refused.
+
+files: the largest game files are read. Others of as many lines and points are made by posgame
+itself, and then read. Unproved.
 """
 from __future__ import annotations
 
+import itertools
+import pathlib
 import random
 import re
-from typing import Iterable
+from typing import Any, Callable, Iterable, Iterator, Optional
 
 import kit
-
-
-def scattered(vertices: int, edges: int) -> kit.Graph:
-    """Edges between vertices drawn at random, always the same."""
-    draw = random.Random(20)
-    return vertices, [(draw.randrange(vertices), draw.randrange(vertices)) for _ in range(edges)]
 
 
 def bipartite(left: int, right: int) -> kit.Graph:
@@ -52,15 +56,36 @@ PATH = pairs_over((v, v + 1) for v in range(499))
 SWITCHING: list[tuple[str, kit.Graph, kit.Edge]] = [
     ("Bridg-it of 22 rows", kit.bridge(22), (0, 1)),
     ("the same, its edges mixed", mixed(kit.bridge(22)), (0, 1)),
-    ("1,000 random edges on 480 vertices", scattered(480, 1000), (0, 1)),
+    ("1,000 random edges on 480 vertices", kit.scattered(20, 480, 1000), (0, 1)),
     ("complete bipartite, 2 and 498", bipartite(2, 498), (0, 1)),
     ("complete bipartite, 31 and 32", bipartite(31, 32), (0, 62)),
     ("500 pairs over a path of 500", PATH, (0, 499)),
     ("the same, its edges mixed", mixed(PATH), (0, 499)),
     ("500 pairs over a star of 500", pairs_over((0, v + 1) for v in range(499)), (1, 2)),
 ]
-# Of each search its name, the kind, points and lines of the board, the answer that is due, and the
-# limit of million instructions.
+
+
+def classes(program: str, only: str) -> int:
+    """Measures classing, in which `classify` is counted with all that it calls."""
+    table = kit.Table("board", "edges", "class",
+                      kit.Column("`classify`, instructions", ",.0f", 1e8), "whole run",
+                      kit.Column("s", ".3f"), "KB")
+    for name, graph, terminals in kit.named(only, SWITCHING):
+        with kit.files(game=kit.switching(graph, terminals)) as folder:
+            words, counts = (folder / "game", folder / "certificate"), folder / "counts"
+            whole = kit.count(program, "solve", *words, counts=counts).instructions
+            listed = kit.listing(counts, "--inclusive=yes", "--threshold=100")
+            inner = re.search(r"^\s*([\d,]+).*classify", listed, re.MULTILINE)
+            done = kit.run(program, "solve", *words)
+            wrong = [] if kit.run(program, "check", *words).is_accepted else ["not accepted"]
+        table.row(name, len(graph[1]), done.said.removeprefix("class "),
+                  int(inner[1].replace(",", "")) if inner else whole, whole, done.seconds,
+                  done.kilobytes, wrong=wrong)
+    return table.end()
+
+
+# Searches: of each its name, the kind, points and lines of the board, the answer that is due, and
+# the limit of million instructions.
 SEARCHES = [
     ("Maker-Maker, 4 by 4, 100/111", "maker-maker", 16, kit.placements(4, 4, "100/111"),
      "result x", 250),
@@ -73,66 +98,306 @@ SEARCHES = [
     ("Avoider-Enforcer, 3,000 scattered lines of 9", "avoider-enforcer", 100,
      kit.scatter(33, 100, 3000, 9), "unknown after 999 positions", 6300),
 ]
-# The largest files: lines of 20 points, and edges.
-LINES = [sorted({(number * 7 + step * 11) % 256 for step in range(20)}) for number in range(20_000)]
-EDGES = 500, [(number % 500, number * 7 % 500) for number in range(1_000)]
 
 
-def classes(program: str) -> int:
-    """Measures classing, in which `classify` is counted with all that it calls."""
-    table = kit.Table("board", "edges", "class",
-                      kit.Column("`classify`, instructions", ",.0f", 1e8), "whole run",
-                      kit.Column("s", ".3f"), "KB")
-    for name, graph, terminals in SWITCHING:
-        with kit.files(game=kit.switching(graph, terminals)) as folder:
-            words, counts = (folder / "game", folder / "certificate"), folder / "counts"
-            whole = kit.count(program, "solve", *words, counts=counts).instructions
-            listed = kit.listing(counts, "--inclusive=yes", "--threshold=100")
-            inner = re.search(r"^\s*([\d,]+).*classify", listed, re.MULTILINE)
-            done = kit.run(program, "solve", *words)
-            wrong = [] if kit.run(program, "check", *words).is_accepted else ["not accepted"]
-        table.row(name, len(graph[1]), done.output.strip().removeprefix("class "),
-                  int(inner[1].replace(",", "")) if inner else whole, whole, done.seconds,
-                  done.kilobytes, wrong=wrong)
-    return table.end()
-
-
-def searches(program: str) -> int:
+def searches(program: str, only: str) -> int:
     """Measures searches."""
-    table = kit.Table("board", "answer", kit.Column("million instructions", ",.1f"),
-                      kit.Column("limit"), kit.Column("to read", ".1f"), kit.Column("s", ".3f"),
+    table = kit.Table("board", "answer", kit.Column("million instructions", ",.1f"), "limit",
+                      kit.Column("to read", ".1f"), kit.Column("s", ".3f"),
                       kit.Column("KB", limit=150_000))
-    slow = []
-    for name, kind, points, lines, answer, limit in SEARCHES:
+    for name, kind, points, lines, answer, limit in kit.named(only, SEARCHES):
         text = kit.game(kind, f"points {points}", *kit.line_rows(lines))
         with kit.files(game=text) as folder:
             words = program, "solve", folder / "game", folder / "stored"
             done, whole, read, counts = kit.run(*words), None, None, folder / "counts"
+            wrong = [] if done.said.startswith(answer) else [f"not {answer}"]
             if kit.has_valgrind():
                 read = kit.count(program, "check", words[2], "/dev/null").instructions / 1e6
                 whole = kit.count(*words, counts=counts).instructions / 1e6
             if whole and whole > limit:
                 listed = re.findall(r"^ *[\d,]+ \(.*$", kit.listing(counts), re.MULTILINE)
-                slow += [name, *listed[1:13]]
-        said = done.output.strip()
-        table.row(name, said, (whole, limit), limit, read, done.seconds, done.kilobytes,
-                  wrong=[] if said.startswith(answer) else [f"not {answer}"])
-    print(*slow, sep="\n")
+                wrong += listed[1:13]
+        table.row(name, done.said, (whole, limit), limit, read, done.seconds, done.kilobytes,
+                  wrong=wrong)
     return table.end()
 
 
-def files(program: str) -> int:
+# Families: the number of rows, the target and the vectors, each a number of so many bits.
+Vectors = tuple[int, int, list[int]]
+
+
+def drawn_vectors(seed: int, count: int, weight: Optional[int]) -> Vectors:
+    """Vectors of 128 rows drawn at random, with so many ones or, without a weight, bit by bit."""
+    draw = random.Random(seed)
+    target, *vectors = [kit.bits(draw.sample(range(128), weight)) if weight
+                        else draw.getrandbits(128) for _ in range(count + 1)]
+    return 128, target, vectors
+
+
+def parted(seed: int, many: int, few: int) -> Vectors:
+    """Random vectors on the first 60 rows, which don't matter, and vectors with two ones on the
+    others, as the target is."""
+    draw = random.Random(seed)
+    vectors = [draw.getrandbits(60) for _ in range(many)]
+    vectors += [kit.bits(draw.sample(range(60, 128), 2)) for _ in range(few)]
+    draw.shuffle(vectors)
+    return 128, kit.bits(draw.sample(range(60, 128), 2)), vectors
+
+
+def graphic(graph: kit.Graph) -> Vectors:
+    """The edges of a graph as vectors: the ones are at the two ends, except for vertex 0."""
+    target, *vectors = [kit.bits(w - 1 for w in {u} ^ {v} if w > 0) for u, v in [(0, 1), *graph[1]]]
+    return graph[0] - 1, target, vectors
+
+
+def vector_text(game: Vectors, turn: str) -> str:
+    """The file of a game on vectors."""
+    target, *signs = [f"{vector:0{game[0]}b}"[::-1] for vector in [game[1], *game[2]]]
+    heads = "posgame-vectors 1", f"rows {game[0]}", f"target {target}"
+    return "\n".join([*heads, *map("vector {}".format, signs), f"turn {turn}", ""])
+
+
+def family_games() -> Iterator[tuple[str, ...]]:
+    """Yields the name of each game, its file, and that of a game that must have the same class."""
+    yield "complete graph, 45 vertices", kit.span(kit.complete(45), "y")
+    yield "complete graph, 25 vertices, tripled", kit.span(kit.complete(25, 3), "y")
+    yield "grid, 22 by 22", kit.span(kit.grid(22, 22), "x")
+    for many, turn in (500, "x"), (400, "x"), (200, "y"):
+        graph = kit.scattered(22, many, 1000, is_joined=True)
+        yield f"1,000 random edges on {many} vertices", kit.span(graph, turn)
+    yield "doubled path of 500 vertices, two edges", kit.span(kit.doubled_path(500, 1000), "y")
+    for seed, count, weight, turn in (
+            (23, 1000, None, "y"), (24, 250, None, "x"), (25, 256, None, "y"),
+            (26, 1000, 2, "y"), (27, 220, 2, "x"), (28, 1000, 3, "y")):
+        name = f"vectors of {weight} ones" if weight else "random vectors"
+        yield f"{count:,} {name}", vector_text(drawn_vectors(seed, count, weight), turn)
+    units = 128, 2**128 - 1, [1 << k % 128 for k in range(1000)]
+    yield "1,000 unit vectors", vector_text(units, "y")
+    yield "890 random vectors of 60 rows, 110 of two ones", vector_text(parted(29, 890, 110), "x")
+    for turn in "xy":
+        board = kit.bridge(11)
+        yield (f"Bridg-it of 11 rows as vectors, {turn.upper()} to move",
+               vector_text(graphic(board), turn), kit.switching(board))
+
+
+def dearest(folder: pathlib.Path, words: Iterable[object], typed: str) -> tuple[int, int]:
+    """How many moves a player makes, and the instructions of the dearest, with its reply."""
+    flags = ["--dump-before=*Player::make_move*"]
+    kit.count(*words, counts=folder / "counts", typed=typed, flags=flags)
+    pattern = re.compile(r"^part: (\d+)(?:\n.*)*?\nsummary: (\d+)", re.MULTILINE)
+    texts = (it.read_text(encoding="ascii", errors="replace") for it in folder.glob("counts*"))
+    moves = [int(it[2]) for it in map(pattern.search, texts) if it and int(it[1]) > 1]
+    return len(moves), max(moves, default=0)
+
+
+def measured(program: str, text: str, other: str = "") -> tuple[list[Any], list[str]]:
+    """The cells of a game of a family, and what is wrong with them."""
+    with kit.files(game=text, other=other) as folder:
+        paths = folder / "game", folder / "certificate"
+        words = program, *kit.family_of(text)
+        solve, check, play = ((*words, it, *paths) for it in ("solve", "check", "play"))
+        read = *words, "check", paths[0], "/dev/null"
+        solved, checked, least = (kit.quickest(5, *it) for it in (solve, check, read))
+        solving, checking, reading = (kit.count(*it).instructions for it in (solve, check, read))
+        said, turn = solved.said.removeprefix("class "), text.split()[-1]
+        points = len(re.findall("^(?:edge|vector) ", text, re.MULTILINE))
+        side = {"maker": "x", "short": "x", "first-mover": turn}.get(said, "y")
+        replies = "".join(f"{step * 617 % points}\n" for step in range(200))
+        moves, dear = dearest(folder, (*play, "--side", side), replies)
+        due = kit.run(program, "solve", folder / "other", paths[1]).said if other else solved.said
+    costs = [cost for done, instructions in ((solved, solving), (checked, checking)) for cost in (
+        (instructions - reading) / 1e6, max(done.seconds - least.seconds, 0) * 1000)]
+    wrong = [] if checked.is_accepted else ["not accepted"]
+    wrong += [f"not {due}"] * (due != solved.said)
+    return [said, *costs, moves, dear / 1e6, solved.kilobytes], wrong
+
+
+def families(program: str, only: str) -> int:
+    """Measures games of families. Time is limited, and as many million instructions as 3,000
+    million a second make of it."""
+    table = kit.Table("game", "class", kit.Column("solved, million instructions", ".4g", 600),
+                      kit.Column("ms", ".4g", 200), kit.Column("checked, million", ".4g", 150),
+                      kit.Column("ms", ".4g", 50), "moves",
+                      kit.Column("dearest, million", ".4g", 15), kit.Column("KB", limit=16_000))
+    for name, *texts in kit.named(only, family_games()):
+        cells, wrong = measured(program, *texts)
+        table.row(name, *cells, wrong=wrong)
+    return table.end()
+
+
+# Certificates: game and certificate; the small games have two lines.
+POINTS = 16
+LINES = range(0, 9), range(7, 16)
+Files = tuple[str, str]
+
+
+def node(x: Iterable[int], y: Iterable[int], turn: str, body: str) -> str:
+    """Returns the line of a node."""
+    return f"{kit.field(sorted(x))}|{kit.field(sorted(y))}|{turn}|{body}\n"
+
+
+def put_tree(nodes: list[str], count: int) -> tuple[kit.Points, kit.Points]:
+    """Adds nodes up to `count` of a game without lines on 16 points, in which Y claims a draw: full
+    boards, then Y's last moves, then moves of X before these. Returns the position of the last."""
+    most, half, every = (count + len(nodes)) // 2 + 1, POINTS // 2, frozenset(range(POINTS))
+    place: dict[tuple[kit.Points, kit.Points], int] = {}
+
+    def put(x: kit.Points, y: kit.Points, turn: str, body: str) -> None:
+        place[x, y] = len(nodes)
+        nodes.append(node(x, y, turn, body))
+
+    for x in map(frozenset, itertools.combinations(range(POINTS), half)):
+        put(x, every - x, "x", "over")
+    for y in map(frozenset, itertools.combinations(range(POINTS), half - 1)):
+        for v in sorted(every - y)[: max(most - len(nodes), 0)]:
+            x = every - y - {v}
+            put(x, y, "y", f"move {v} {place[x, y | {v}]}")
+    moves = [it for it in place if len(it[1]) == half - 1]
+    for x, y in ((x - {back}, y) for x, y in moves for back in sorted(x)):
+        free = sorted(every - x - y)
+        children = [place.get((x | {v}, y)) for v in free]
+        if len(nodes) < count and None not in children and (x, y) not in place:
+            put(x, y, "x", kit.field(["all", *map("{}:{}".format, free, children)]))
+    assert len(nodes) == count
+    return list(place)[-1]
+
+
+def mixed_leaf(draw: random.Random, is_potential: bool) -> Optional[str]:
+    """Returns a node at a random position of two lines, or None if there are too few pairs."""
+    marks = draw.sample(range(POINTS), draw.choice((4, 6, 8)))
+    pairs, used = ["pairs"], set(marks)
+    for line in (it for it in LINES if not set(it) & set(marks[1::2])):
+        own = sorted(set(line) - used)[:2]
+        if len(own) < 2:
+            return None
+        pairs.append("{}-{}".format(*own))
+        used.update(own)
+    body = "potential" if is_potential else kit.field(pairs)
+    return node(marks[::2], marks[1::2], "x", body)
+
+
+def maker_maker(*rows: str, points: int = 256) -> str:
+    """Returns the game file of the size that is usual here."""
+    return kit.game("maker-maker", f"points {points}", *rows)
+
+
+def draws(nodes: str, times: int = 1, copies: int = 1) -> str:
+    """Returns a certificate with a claim of a draw by Y, once or twice."""
+    return kit.certificate(*[kit.claim("x y draw", nodes, times)] * copies)
+
+
+def mixed_files(count: int = 100_000) -> Files:
+    """Two claims of nodes of over, move, all, potential and pairs."""
+    draw, nodes = random.Random(1), []  # type: random.Random, list[str]
+    while len(nodes) < 2 * count // 5:
+        nodes += filter(None, [mixed_leaf(draw, len(nodes) % 2 > 0)])
+    marks = kit.mark_rows(*put_tree(nodes, count))
+    game = maker_maker(*kit.line_rows(LINES), *marks, points=POINTS)
+    return game, draws("".join(nodes), copies=2)
+
+
+def all_files(size: int = 100_000_000) -> Files:
+    """Nodes of 250 replies each, at one position, and the nodes that they name."""
+    free = range(6, 256)
+    children = "".join(node((0, 1, 2, v), (3, 4, 5), "y", "potential") for v in free)
+    above = node((0, 1, 2), (3, 4, 5), "x", kit.field(["all", *(f"{v}:{v - 6}" for v in free)]))
+    return maker_maker("x 0 1 2", "y 3 4 5"), draws(children + above * (size // len(above)))
+
+
+def long_files(size: int = 268_435_456) -> Files:
+    """A certificate of so many bytes with a fault of form in its last line."""
+    long, last = node((), (), "x", "pairs" + " 1000-1001" * 150), "||x|pairs"
+    count = (size - 100_000) // len(long) // 2
+    claim = f"claim x y draw\nnodes {count}\n" + long * (count - 1)
+    text = kit.certificate(claim, long, claim)
+    return maker_maker(), text + last + "-" * (size - len(text) - len(last) - 1) + "\n"
+
+
+def pair_files(size: int = 100_000_000) -> Files:
+    """Two claims of nodes of 128 pairs."""
+    pairs = node((), (), "x", kit.field(["pairs", *(f"{v}-{v + 1}" for v in range(0, 256, 2))]))
+    lines = kit.line_rows((v, v + 1, (v + 7) % 256) for v in range(0, 256, 2))
+    return maker_maker(*lines), draws(pairs, size // len(pairs) // 2, 2)
+
+
+def potential_files(count: int = 100) -> Files:
+    """Potentials of 20,000 lines."""
+    lines = kit.line_rows(sorted((v + 7 * i) % 256 for i in range(20)) for v in range(256))
+    lines = itertools.islice(itertools.cycle(lines), 20_000)
+    return maker_maker(*lines), draws("||x|potential\n", count)
+
+
+def tree_files(rows: int = 21) -> Files:
+    """Bridg-it with its two trees, as trees for X and as cuts for Y. The first goes along each row
+    up to the diagonal, and down to it; the second has the other edges."""
+    along = [j < i for i in range(rows) for j in range(rows)]
+    down = [j > i for i in range(rows - 1) for j in range(1, rows)]
+    first, second = (kit.field(k for k, it in enumerate(along + down) if it == own)
+                     for own in (True, False))
+    claims = [kit.claim(f"{side} {side} win", f"||{side}|{word} e {first} / {second}\n")
+              for side, word in (("x", "trees"), ("y", "cuts"))]
+    return kit.switching(kit.bridge(rows)), kit.certificate(*claims)
+
+
+def foreign_files(nodes: str, times: int, *turns: str) -> Files:
+    """A certificate for a game that has no such points."""
+    claims = [kit.claim(f"{turn} y draw", nodes, times) for turn in turns]
+    return (kit.EXAMPLES / "noughts-and-crosses.game").read_text(), kit.certificate(*claims)
+
+
+LONG_PAIRS = "||x|pairs" + " 101-203" * 12_500 + "\n"
+# Of each pair of files the name, its function, and the size at which instructions are counted.
+CERTIFICATES: list[tuple[Any, ...]] = [
+    ("200,000 nodes of five kinds, 16 points", mixed_files, 100_000),
+    ("100 MB of pairs, 256 points", pair_files, 3_000_000),
+    ("100 MB of `all` with 250 replies, 256 points", all_files, 3_000_000),
+    ("100 potentials of 20,000 lines, 400,000 points", potential_files),
+    ("268,435,456 bytes, refused at the end", long_files),
+    ("a byte more", lambda: long_files(268_435_457)),
+    ("trees and cuts, 422 vertices, 841 edges", tree_files),
+    ("200,000 small nodes, foreign", lambda: foreign_files("||x|pairs\n", 100_000, *"xy")),
+    ("100 MB of pairs, foreign", lambda: foreign_files(LONG_PAIRS, 1_000, "x")),
+]
+
+
+def checked(call: Callable[..., Any], program: str, game: str, stored: str) -> tuple[Any, int]:
+    """Has `call` run or count a check of these files; returns what it returns, and the bytes."""
+    with kit.files(game=game, certificate=stored) as folder:
+        return call(program, "check", folder / "game", folder / "certificate"), len(stored)
+
+
+def certificates(program: str, only: str) -> int:
+    """Measures checks of certificates."""
+    table = kit.Table("certificate", "bytes", kit.Column("s", ".2f"), kit.Column("MB", limit=24),
+                      kit.Column("instructions a byte", ".0f", 80), "printed")
+    for name, make, *small in kit.named(only, CERTIFICATES):
+        (done, size), each = checked(kit.run, program, *make()), None
+        if small and kit.has_valgrind():
+            counted, part = checked(kit.count, program, *make(*small))
+            each = counted.instructions / part
+        printed = ", ".join(dict.fromkeys(done.output.splitlines()))
+        table.row(name, size, done.seconds, done.megabytes, each, printed)
+    return table.end()
+
+
+# Files: lines of 20 points, and edges. Of each game its name, its text, and how posgame makes it.
+LARGE = [sorted({(number * 7 + step * 11) % 256 for step in range(20)}) for number in range(20_000)]
+EDGES = 500, [(number % 500, number * 7 % 500) for number in range(1_000)]
+FILES = [
+    ("20,000 lines, 400,000 points",
+     kit.game("maker-breaker", "points 256", *kit.line_rows(LARGE)), ""),
+    ("1,000 edges", kit.switching(EDGES, (0, 499), "y"), ""),
+    ("256 points, 20000 lines", "", "scatter 1 256 20000 20"),
+    ("464 vertices, 925 edges", "", "bridge 22"),
+]
+
+
+def files(program: str, only: str) -> int:
     """Measures reading and printing."""
     table = kit.Table("game", "how", "bytes", kit.Column("s", ".2f"), "MB")
-    lines = kit.game("maker-breaker", "points 256", *kit.line_rows(LINES))
-    edges = kit.switching(EDGES, (0, 499), "y")
-    with kit.files(lines=lines, edges=edges) as folder:
-        for file, name, words in (("lines", "20,000 lines, 400,000 points", ""),
-                                  ("edges", "1,000 edges", ""),
-                                  ("scatter", "256 points, 20000 lines", "scatter 1 256 20000 20"),
-                                  ("bridge", "464 vertices, 925 edges", "bridge 22")):
-            path = folder / file
-            due = f"game {name.replace(',', '')}\n"
+    for name, text, words in kit.named(only, FILES):
+        with kit.files(game=text) as folder:
+            path, due = folder / "game", f"game {name.replace(',', '')}\n"
             made = f"made by `gen {words}`", ["gen", *words.split(), path], due
             read = "read", ["check", path, "/dev/null"], "certificate C2 line 1\n"
             for how, command, due in [made] * bool(words) + [read]:
@@ -143,4 +408,6 @@ def files(program: str) -> int:
 
 
 if __name__ == "__main__":
-    raise SystemExit(kit.call_part(__doc__, "posgame", classes, searches, files))
+    raise SystemExit(kit.call_part(
+        __doc__, "posgame", classes, searches, families, certificates, files,
+        only=("", "rows with this word in their name")))
