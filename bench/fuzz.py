@@ -22,15 +22,12 @@ from __future__ import annotations
 
 import argparse
 import collections
-import contextlib
 import getopt
 import os
 import pathlib
 import random
 import re
-import resource
 import shutil
-import signal
 from typing import Any, Optional
 
 import kit
@@ -42,49 +39,11 @@ Pairs = dict[str, list[tuple[bytes, bytes]]]
 SECONDS = 2
 BY_THE_CLOCK = 30
 MEGABYTES = 200
-WINNER = "(maker|breaker|x|y|draw|avoider|enforcer{})"
-RESULT = rf"result {WINNER.format('')}\n"
-PLAYED = rf"result {WINNER.format('|short|cut')}\n"
-CLASS = r"class (short|cut|first-mover)\n"
-MADE = r"game \d+ (points \d+ lines|vertices \d+ edges)\n"
-UNKNOWN = r"unknown after \d+ positions\n"
-CLAIM = r'\{"goal":"(win|draw)","nodes":\d+,"side":"[xy]","turn":"[xy]"\}'
-SIZES = (r'("kind":"(maker-breaker|maker-maker|avoider-enforcer)","lines":\d+,"points":\d+|'
-         r'"kind":"switching","points":\d+,"vertices":\d+)')
-REPORT = rf'\{{("bias":[2-7],)?"claims":\[{CLAIM}(,{CLAIM}){{0,7}}\],{SIZES}\}}\n'
-REJECTION = r'\{"claim":\d+,"node":\d+,"reject":"J([1-9]|1[0-3])"\}\n'
-FORM_FAULT = r"certificate C[1-6] line \d+\n"
-REFUSED = r"refused: (not a number|no such point|taken)\n"
-TURNS = rf"claim [xy] (win|draw)\n(move \d+\n|{REFUSED})*"
-
-
-def dues(prefix: str, flaw: str, goals: str, solved: dict[int, str],
-         played: str) -> dict[str, dict[int, str]]:
-    """What the commands on a kind of game may print at each status."""
-    reading = {3: r"game G([1-9]|1[0-3]) line \d+\n", 4: rf"{FORM_FAULT}|{flaw}", 5: ""}
-    play = {0: TURNS + played, 2: r"words: no claim for side [xy]\n", **reading, 8: TURNS, 9: TURNS}
-    return {
-        f"{prefix}check": {0: rf"(accepted [xy] [xy] {goals}\n){{1,8}}", **reading},
-        f"{prefix}solve": {**solved, 3: reading[3], 5: "", 6: ""},
-        f"{prefix}play": play,
-        f"{prefix}report": {0: REPORT, **reading, 4: rf"{FORM_FAULT}|{REJECTION}"},
-    }
-
-
-DUE = {
-    **dues("span ", r"rejected S[1-3] claim \d+\n", "win",
-           {0: r"class (maker|breaker|first-mover)\n"}, r"result (maker|breaker)\n"),
-    **dues("vec ", r"rejected V[1-5] claim \d+ node 0\n", "win", {0: CLASS},
-           r"result (short|cut)\n"),
-    **dues("", r"rejected J([1-9]|1[0-3]) claim \d+ node \d+\n", "(win|draw)",
-           {0: rf"{RESULT}|{CLASS}", 1: UNKNOWN}, PLAYED),
-    "gen": {0: rf"{MADE}(({RESULT}|{CLASS})expanded \d+ nodes \d+\n)?", 1: MADE + UNKNOWN,
-            6: rf"({MADE})?"},
-    "": {2: r"words: no meaning\n"},
-}
-# Words that are put into files, and arguments.
+# Words that are put into files, arguments, and what the commands may print at each status.
+*LISTS, SHARED, DUES = kit.stanzas("fuzz.txt")
 KEYS, SIGNS, FAMILY_KEYS, FAMILY_SIGNS, NUMBERS, NAMES, WORDS = (
-    " ".join(it).split() for it in kit.stanzas("fuzz.txt"))
+    " ".join(it).split() for it in LISTS)
+PATTERNS = dict(it.split(" ", 1) for it in SHARED)
 NAMES += ["", "no folder/new", "x" * 300]
 COMMANDS = ["solve G C", "check G C", "play G C --side x", "report G C", "gen rows 3 O",
             "gen bridge 2 O C", "gen scatter 1 5 2 2 O", "span solve G C", "vec check G C",
@@ -92,33 +51,29 @@ COMMANDS = ["solve G C", "check G C", "play G C --side x", "report G C", "gen ro
 TYPED = ["", " 3\t", "x", "00", "9" * 70, "-1", "3 4", "\0", "ä", "1" * 64]
 
 
+def due(command: str, status: int) -> Optional[str]:
+    """The pattern of what a command may print at a status, or None if it can't have that."""
+    rows = [it.split(":", 2) for it in DUES]
+    texts = [text.strip() for commands, statuses, text in rows
+             if re.fullmatch(commands, command) and re.fullmatch(statuses, f" {status}")]
+    pattern = "|".join(texts)
+    for name in reversed(PATTERNS):
+        pattern = pattern.replace(name, f"({PATTERNS[name]})")
+    return pattern if texts else None
+
+
 class Program:
-    """The program, run in one folder. `folder` has the files of the case that is tried."""
+    """The program and its runs in one folder, which has the files of the case that is tried."""
 
     def __init__(self, path: str, folder: pathlib.Path) -> None:
-        self.path, self.folder, self.most, self.slowest = path, folder, 0, 0.0
-        self.statuses: collections.Counter[int] = collections.Counter()
-        self.streams = [folder.with_suffix(f".{it}") for it in ("in", "out", "err")]
+        self.path, self.folder = path, folder
+        self.runs: list[kit.Run] = []
 
-    def run(self, words: list[str], typed: bytes = b"") -> tuple[int, str, bytes, int, float]:
-        """The status (or the signal below 0), the output, the errors, megabytes, seconds."""
-        self.streams[0].write_bytes(typed)
-        new = os.O_WRONLY | os.O_CREAT | os.O_TRUNC
-        opened = [(os.POSIX_SPAWN_OPEN, number, path, new if number else os.O_RDONLY, 0o600)
-                  for number, path in enumerate(self.streams)]
-        child = os.posix_spawn(self.path, [self.path, *words], os.environ, file_actions=opened)
-        with contextlib.suppress(OSError):  # (it may have ended)
-            resource.prlimit(child, resource.RLIMIT_CPU, (SECONDS + 1, SECONDS + 2))
-        signal.signal(signal.SIGALRM, lambda *_: os.kill(child, signal.SIGKILL))
-        signal.alarm(BY_THE_CLOCK)
-        _, ended, used = os.wait4(child, 0)
-        signal.alarm(0)
-        status, seconds = os.waitstatus_to_exitcode(ended), used.ru_utime + used.ru_stime
-        megabytes = used.ru_maxrss // 1024
-        self.statuses[status] += 1
-        self.most, self.slowest = max(self.most, megabytes), max(self.slowest, seconds)
-        said, errors = (it.read_bytes() for it in self.streams[1:])
-        return status, said.decode("utf-8", "replace"), errors, megabytes, seconds
+    def run(self, words: list[str], typed: bytes = b"") -> kit.Run:
+        """Runs the program."""
+        self.runs.append(kit.run(self.path, *words, typed=typed, folder=self.folder,
+                                 most=SECONDS + 1, clock=BY_THE_CLOCK))
+        return self.runs[-1]
 
 
 def held(folder: pathlib.Path) -> dict[str, Optional[bytes]]:
@@ -127,30 +82,15 @@ def held(folder: pathlib.Path) -> dict[str, Optional[bytes]]:
             for it in folder.rglob("*")}
 
 
-def is_within(word: str, least: int, most: int) -> bool:
-    """Whether a word is a number within these limits."""
-    return bool(re.fullmatch("0|[1-9][0-9]{0,9}", word)) and least <= int(word) <= most
-
-
-# The limits of the numbers of each kind of game that is made, and the options of each command on
-# a game and a certificate.
-LIMITS = {"rows": [(2, 16)], "bridge": [(1, 22)],
-          "scatter": [(0, 2**31 - 1), (1, 256), (0, 20_000), (1, 100)]}
-OPTIONS = {"solve": {"--positions"}, "check": set(), "play": {"--side"}, "report": set(),
-           "span solve": set(), "span check": set(), "span play": {"--side"},
-           "vec solve": set(), "vec check": set(), "vec play": {"--side"}}
-
-
-def made(kind: str = "", *others: str) -> Optional[list[str]]:
-    """What `gen` writes, or None where its words have no meaning."""
-    limits = LIMITS.get(kind, [])
-    numbers, names = others[:len(limits)], list(others[len(limits):])
-    is_meant = bool(limits) and len(names) in (1, 2) and all(
-        is_within(number, *limit) for number, limit in zip(numbers, limits))
-    if is_meant and kind == "scatter":
-        _, points, lines, size = map(int, numbers)
-        is_meant = size <= points and lines * size <= 400_000
-    return names if is_meant else None
+# The words that have a meaning, a line each, with options after a \0. Names of files that are
+# written are groups, and so are the numbers of a scattered game, which are looked at further.
+NAME, FAMILY = r"(?:\n[^\n\0]*)", "|".join(kit.FAMILIES)
+MEANT = re.compile(rf"""
+    (?:(?:{FAMILY})\n)?(?:check{NAME}{NAME}|play{NAME}{NAME}\0--side=[xy])|report{NAME}{NAME}
+    |(?:{FAMILY})\nsolve{NAME}({NAME})
+    |solve{NAME}({NAME})(?:\0--positions=(?:[1-9][0-9]{{0,4}}|100000))?
+    |gen\n(?:rows\n(?:[2-9]|1[0-6])|bridge\n(?:[1-9]|1[0-9]|2[0-2])
+        |scatter(?P<numbers>(?:\n(?:0|[1-9][0-9]{{0,9}})){{4}}))({NAME})({NAME})?""", re.VERBOSE)
 
 
 def meaning(words: list[str]) -> tuple[str, list[str]]:
@@ -160,33 +100,33 @@ def meaning(words: list[str]) -> tuple[str, list[str]]:
         options, others = getopt.gnu_getopt(words, "", ["positions=", "side="])
     except getopt.GetoptError:
         return "", []
-    count = 2 if others[:1] in (["span"], ["vec"]) else 1
-    command, others, values = " ".join(others[:count]), others[count:], dict(options)
-    if command == "gen" and not options:
-        names = made(*others)
-        return ("", []) if names is None else ("gen", names)
-    is_meant = (command in OPTIONS and len(others) == 2 and len(values) == len(options)
-                and values.keys() <= OPTIONS[command]
-                and is_within(values.get("--positions", "1"), 1, 100_000)
-                and (not command.endswith("play") or values.get("--side") in ("x", "y")))
-    return (command, others[1:] * command.endswith("solve")) if is_meant else ("", [])
+    found = MEANT.fullmatch("\n".join(others) + "".join(f"\0{'='.join(it)}" for it in options))
+    if not found:
+        return "", []
+    seed, points, lines, size = map(int, (found["numbers"] or "0 1 0 1").split())
+    if (seed >= 2**31 or not 1 <= size <= points <= 256 or size > 100 or lines > 20_000
+            or lines * size > 400_000):
+        return "", []
+    command = " ".join(others[: 2 if others[0] in kit.FAMILIES else 1])
+    return command, [it[1:] for it in found.groups() if it and it != found["numbers"]]
 
 
 def wrongs(program: Program, words: list[str], typed: bytes = b"") -> tuple[list[str], int, str]:
     """Runs the program; what is wrong with the run, with its status and what it said."""
-    before = held(program.folder)
-    status, said, errors, megabytes, seconds = program.run(words, typed)
-    after, (command, writes) = held(program.folder), meaning(words)
-    due = DUE[command].get(status)
+    before, (command, writes) = held(program.folder), meaning(words)
+    run = program.run(words, typed)
+    after, status, said = held(program.folder), run.status, run.output
+    pattern = due(command, status)
     faults = {
-        f"signal {-status} after {seconds:.2f} s": status < 0,
-        f"status {status}": status >= 0 and due is None,
-        f"status {status} with {said[:200]!r}": due is not None and not re.fullmatch(due, said),
+        f"signal {-status} after {run.processor:.2f} s": status < 0,
+        f"status {status}": status >= 0 and pattern is None,
+        f"status {status} with {said[:200]!r}":
+            pattern is not None and not re.fullmatch(pattern, said),
         "status 9 without a refusal at its end":
-            status == 9 and not re.search(rf"({REFUSED})\Z", said),
-        f"{seconds:.2f} s of a processor": seconds > SECONDS,
-        f"standard error {errors[:200]!r}": errors,
-        f"{megabytes} MB": megabytes > MEGABYTES,
+            status == 9 and not re.search(rf"({PATTERNS['REFUSED']})\Z", said),
+        f"{run.processor:.2f} s of a processor": run.processor > SECONDS,
+        f"standard error {run.errors[:200]!r}": run.errors,
+        f"{run.megabytes} MB": run.megabytes > MEGABYTES,
     }
     keeps = status in (2, 3, 4) or status == 1 and command == "solve"
     may_change = set() if keeps else {os.path.normpath(name) for name in writes}
@@ -270,7 +210,7 @@ CHANGES = {numbers_changed: 40, words_changed: 20, lines_moved: 18, one_byte: 14
 def mutated(draw: Draw, data: bytes, pool: list[str]) -> bytes:
     """Some changes one after the other."""
     for _ in range(draw.choice((0, 1, 1, 1, 2, 3, 8))):
-        # A long file stays as long as it is: a run counts the memory of this script.
+        # A long file stays as long as it is.
         changes = CHANGES if len(data) < 200_000 else {one_byte: 14, cut: 7}
         data = draw.choices(*zip(*changes.items()))[0](draw, data, pool)
     return data
@@ -297,16 +237,16 @@ def write(folder: pathlib.Path, **files: bytes) -> None:
 def disagreements(ends: dict[str, tuple[int, str]]) -> list[str]:
     """What is wrong with the commands' statuses and texts. A family has no report."""
     (checked, text), (played, log) = ends["check"], ends["play"]
-    reported, told = ends.get("report", (checked, '"goal"' * text.count("\n")))
+    reported, report = ends.get("report", (checked, '"goal"' * text.count("\n")))
     found, is_right = [], reported == 0 and played in (0, 2, 8, 9)
-    if checked == 0 and not (is_right and told.count('"goal"') == text.count("\n")):
+    if checked == 0 and not (is_right and report.count('"goal"') == text.count("\n")):
         found.append(f"accepted, but {reported}, {played}")
     if checked != 0 and (reported, played, log) != (checked, checked, text):
         found.append(f"refused by {checked}, but {reported}, {played}")
     if "report" in ends and text.startswith("rejected"):
-        shown = [re.findall(rf'"{it}":"?J?(\d+)', told)[:1] for it in ("reject", "claim", "node")]
+        shown = [re.findall(rf'"{it}":"?J?(\d+)', report)[:1] for it in ("reject", "claim", "node")]
         if [[it] for it in re.findall(r"\d+", text)] != shown:
-            found.append(f"{text!r}, but {told!r}")
+            found.append(f"{text!r}, but {report!r}")
     return found
 
 
@@ -328,7 +268,7 @@ def certificate_case(draw: Draw, program: Program, pairs: Pairs, family: str = "
 
 def family_case(draw: Draw, program: Program, pairs: Pairs) -> list[str]:
     """Check and play of one pair of files of a family, which must agree; and the game solved."""
-    family = draw.choice(("span", "vec"))
+    family = draw.choice(kit.FAMILIES)
     found = certificate_case(draw, program, pairs, family)
     return found + stored(program, ["G", "O"], ["solve", "G", "O"], family)
 
@@ -352,7 +292,7 @@ def gen_case(draw: Draw, program: Program, _: Pairs) -> list[str]:
 
 def words_case(draw: Draw, program: Program, pairs: Pairs) -> list[str]:
     """Words of any kind."""
-    game, certificate = draw.choice(pairs[draw.choice(("", "", "span", "vec"))])
+    game, certificate = draw.choice(pairs[draw.choice(("", "", *kit.FAMILIES))])
     write(program.folder, **{"G": game, "C": certificate, "-G": game, "ä": certificate})
     words = draw.choice(COMMANDS).split()
     for _ in range(draw.choice((0, 1, 1, 2, 4))):
@@ -375,17 +315,16 @@ def pairs_of_examples(program: Program) -> Pairs:
                            for it in ("*.game", "*.cert"))
     accepted, rejected = collections.defaultdict(list), collections.defaultdict(list)
     for game in games:
-        head = re.search(b"^posgame.*", game, re.MULTILINE)
-        family = {b"posgame-span 1": "span", b"posgame-vectors 1": "vec"}.get(head[0], "")
+        family = "".join(kit.family_of(game.decode()))
         write(program.folder, G=game)
-        if program.run([*family.split(), "solve", "G", "S"])[0] == 0:
+        if program.run([*family.split(), "solve", "G", "S"]).status == 0:
             accepted[family].append((game, (program.folder / "S").read_bytes()))
         for certificate in certificates:
             (program.folder / "C").write_bytes(certificate)
-            status, said, *_ = program.run([*family.split(), "check", "G", "C"])
-            if status == 0:
+            done = program.run([*family.split(), "check", "G", "C"])
+            if done.status == 0:
                 accepted[family].append((game, certificate))
-            elif said.startswith("rejected") and not re.match("rejected J(11|12|2 )", said):
+            elif re.match("rejected (?!J(11|12|2 ))", done.output):
                 rejected[family].append((game, certificate))
     return {family: pairs * 6 + rejected[family] for family, pairs in accepted.items()}
 
@@ -393,8 +332,8 @@ def pairs_of_examples(program: Program) -> Pairs:
 def try_cases(program: Program, given: argparse.Namespace) -> tuple[int, int, list[str]]:
     """Runs cases, and returns how many runs and cases there were and what was wrong."""
     pairs, wrong = pairs_of_examples(program), []
-    begun, number = program.statuses.total(), given.first
-    while program.statuses.total() - begun < given.runs:
+    begun, number = len(program.runs), given.first
+    while len(program.runs) - begun < given.runs:
         draw = random.Random(f"{given.seed} {number}")
         case: Any = draw.choice(CASES)
         found = case(draw, program, pairs)
@@ -403,25 +342,20 @@ def try_cases(program: Program, given: argparse.Namespace) -> tuple[int, int, li
         for name, data in sorted(held(program.folder).items()) if found and given.runs == 1 else ():
             print(f"{name}: {data if data is None or len(data) < 2_000 else data[:2_000] + b'..'}")
         number += 1
-    return program.statuses.total() - begun, number - given.first, wrong
+    return len(program.runs) - begun, number - given.first, wrong
 
 
 def main() -> int:
-    words = kit.parser(__doc__)
-    words.add_argument("--runs", type=int, default=20_000, help="so many runs, or a few more")
-    words.add_argument("--seed", type=int, default=1)
-    words.add_argument("--first", type=int, default=0, help="the number of the first case")
-    given = words.parse_args()
-    with kit.files() as top:
-        (top / "case").mkdir()
-        os.chdir(top / "case")
-        program = Program(given.program, top / "case")
-        runs, cases, wrong = try_cases(program, given)
-        os.chdir(top)
-    table, statuses = kit.Table("what", "number"), sorted(program.statuses.items())
-    for row in (("runs", runs), ("cases", cases), ("findings", len(wrong)),
-                ("greatest memory, MB", program.most),
-                ("longest run, s of a processor", f"{program.slowest:.2f}"),
+    given = kit.options(__doc__, runs=(20_000, "so many runs, or a few more"), seed=1,
+                        first=(0, "the number of the first case"))
+    with kit.files() as folder:
+        program = Program(given.program, folder)
+        count, cases, wrong = try_cases(program, given)
+    table, runs = kit.Table("what", "number"), program.runs
+    statuses = sorted(collections.Counter(it.status for it in runs).items())
+    for row in (("runs", count), ("cases", cases), ("findings", len(wrong)),
+                ("greatest memory, MB", max(it.megabytes for it in runs)),
+                ("longest run, s of a processor", f"{max(it.processor for it in runs):.2f}"),
                 *((f"runs ended with status {status}", many) for status, many in statuses)):
         table.row(*row)
     return kit.end(wrong)
