@@ -33,7 +33,8 @@ from typing import Any, Iterator, Optional
 
 import kit
 
-ROW = re.compile(r"^(\S.*?)(?:: (USER|ROOT)?(.*))?\n  (.*) => (\d+) ?(.*)$", re.MULTILINE)
+ROWS = "rows of files, names and streams"
+ROW = re.compile(r"^(\S.*?)(?:: (USER|ROOT|MOUNT)?(.*))?\n  (.*) => (\d+) ?(.*)$", re.MULTILINE)
 GAME = kit.game("maker-breaker", "points 6", *kit.line_rows([(0, 1), (2, 3), (4, 5)]))
 PAIRS = kit.certificate(kit.claim("x y win", "||x|pairs 0-1 2-3 4-5\n"))
 OLD, RESULT = "old\n", "result breaker\n"
@@ -43,14 +44,16 @@ TEXTS: dict[str, Any] = {
     "MADE": f"game 16 points 10 lines\n{RESULT}expanded 0 nodes 1\n",
     "RECORD": "posgame-record 1\n", "nothing": None, "PAIRS RESULT": PAIRS + RESULT,
 }
-NOBODY = 65534
-USER = NOBODY if os.getuid() == 0 else None
+USER = 65534 if os.getuid() == 0 else None
 MANY = "gen scatter 4 16 18 4 G C".split()
 OTHERS = "rows 4", "bridge 3", "scatter 3 9 8 3", "scatter 5 12 10 4"
 
 
-def held(path: pathlib.Path) -> Optional[str]:
-    """Returns what a name contains."""
+def held(folder: pathlib.Path, name: str) -> Optional[str]:
+    """Returns what a name contains, or what a command after a `$` prints."""
+    path = folder / name
+    if name.startswith("$"):
+        return kit.call("sh", "-c", name[1:], cwd=folder).stdout or None
     if path.is_symlink():
         return f"link to {os.readlink(path)}"
     return "a folder" if path.is_dir() else path.read_text() if path.is_file() else None
@@ -58,16 +61,15 @@ def held(path: pathlib.Path) -> Optional[str]:
 
 def parts(folder: pathlib.Path) -> set[str]:
     """Returns the files that a run which was killed leaves."""
-    return {it.name for it in folder.glob("*.posgame-part*")}
+    return {str(it.relative_to(folder)) for it in folder.rglob("*.posgame-part*")}
 
 
 class Rows:
-    """The rows that were run, what came out otherwise, and the table of all counts."""
+    """The rows that were run, what came out otherwise, and how often what has ended how."""
 
     def __init__(self, program: str, top: str) -> None:
-        self.program, self.top, self.rows, self.skipped = program, top, 0, 0
-        self.wrong: list[str] = []
-        self.table = kit.Table("what", "ended", "times")
+        self.program, self.top, self.wrong = program, top, []  # type: str, str, list[str]
+        self.ends: dict[str, Any] = collections.defaultdict(collections.Counter)
 
     def folder(self, **texts: str) -> pathlib.Path:
         """Makes a new folder with files of these texts, in which everybody may write."""
@@ -81,41 +83,43 @@ class Rows:
             before: str = "", user: Optional[int] = None) -> pathlib.Path:
         """Runs one row, and returns its folder. A shell does `before` there, beside the game G, the
         certificate C and the file O; `holds` says what files contain then (None: missing)."""
-        self.rows += 1
+        self.ends[ROWS][""] += 1
         folder, due = self.folder(G=GAME, C=PAIRS, O=OLD), {"G": GAME, **dict(holds)}
         subprocess.run(["sh", "-c", before], cwd=folder, stdout=subprocess.DEVNULL, check=True)
         ended = self.ended(words, folder, user)
         if ended != (status, printed, ""):
             self.wrong.append(f"{name}: {words}: {ended} in place of {(status, printed)}")
-        found = {file: held(folder / file) for file in due}
+        found = {file: held(folder, file) for file in due}
         self.wrong += [f"{name}: {file[:60]} is {found[file]!r:.200}, not {text!r:.200}"
                        for file, text in due.items() if found[file] != text]
         self.wrong += [f"{name}: {part[:60]} is left" for part in parts(folder) - set(due)]
         return folder
 
     def ended(self, words: str, folder: pathlib.Path, user: Optional[int] = None) -> Any:
-        """Returns the status, the output and the errors of a run."""
+        """Returns the status, the output and the errors of a run of at most twenty seconds."""
         script = re.sub("^(.*[;|] )?", r'\1exec "$0" ', words, count=1)
         whose: Any = {"user": user, "group": user, "extra_groups": []} if user else {}
-        try:
-            run = subprocess.run(["sh", "-c", script, self.program], cwd=folder, timeout=20,
-                                 stdin=subprocess.DEVNULL, capture_output=True, text=True, **whose)
-        except subprocess.TimeoutExpired:
-            return "more than twenty seconds"
-        return run.returncode, run.stdout, run.stderr
+        run = kit.run("sh", "-c", script, self.program, folder=folder, clock=20, **whose)
+        is_late = run.seconds > 20
+        return "more than twenty seconds" if is_late else (run.status, run.output, run.errors)
 
 
 def listed(rows: Rows) -> None:
     """Runs the rows of bench/real_files.txt."""
     text = re.sub(r"n\*(\d+)", lambda found: "n" * int(found[1]), kit.data("real_files.txt"))
-    for name, user, before, words, status, tail in ROW.findall(text):
-        if user == "ROOT" and not USER:
+    mount = kit.call("sh", "-c", 'mount -t tmpfs tmpfs "$0" && umount "$0"', rows.folder())
+    may = {"ROOT": USER is not None, "MOUNT": mount.returncode == 0}
+    for name, needs, before, words, status, tail in ROW.findall(text):
+        rows.ends[ROWS]["not permitted"] += needs == "MOUNT" and not may["MOUNT"]
+        if not may.get(needs, True):
             continue
         printed, *holds = tail.split("; ")
         said = "".join(TEXTS.get(it, it + "\n") for it in shlex.split(printed))
-        pairs = [it.split(" = ") for it in holds]
-        rows.row(name, words, int(status), said, [(it, TEXTS.get(due, due)) for it, due in pairs],
-                 before, USER if user else None)
+        due = {it: TEXTS.get(text, text) for it, text in (hold.split(" = ") for hold in holds)}
+        user = USER if needs in ("USER", "ROOT") else None
+        folder = rows.row(name, words, int(status), said, due, before, user)
+        if needs == "MOUNT":
+            subprocess.run(["umount", folder / "F"], check=True)
 
 
 def closed_streams(rows: Rows) -> None:
@@ -135,16 +139,6 @@ def closed_streams(rows: Rows) -> None:
                      "" if 1 in numbers else said, holds)
 
 
-def modes(rows: Rows) -> None:
-    """A file that is replaced keeps its mode, and its owner where that is allowed."""
-    for mode in 0o600, 0o640, 0o666, 0o444:
-        name, owner = f"a file of mode {mode:o}", USER or os.getuid()
-        before = f"chmod {mode:o} O" + (f"; chown {owner}:{owner} O" if USER else "")
-        now = os.stat(rows.row(name, "solve G O", 0, RESULT, {"O": PAIRS}, before) / "O")
-        if (now.st_mode & 0o7777, now.st_uid) != (mode, owner) or USER and now.st_gid != owner:
-            rows.wrong.append(f"{name}: {now}")
-
-
 def stale_parts(rows: Rows) -> None:
     """What runs that were killed have left is removed, and what another run writes is not."""
     lock = "exec 9< O.posgame-part0; flock 9; "
@@ -153,47 +147,6 @@ def stale_parts(rows: Rows) -> None:
         holds = {"O": PAIRS, **dict.fromkeys(names, "stale"), names[used]: None}
         rows.row(f"{'one of ' if first else ''}{count} stale parts{' is locked' if first else ''}",
                  f"{first}solve G O", 0, RESULT, holds, f"printf stale | tee {' '.join(names)}")
-
-
-@contextlib.contextmanager
-def mount(rows: Rows, place: pathlib.Path, *words: str | pathlib.Path) -> Iterator[bool]:
-    """Mounts a file or a disk, and tells whether that is permitted."""
-    is_mounted = not subprocess.run(["mount", *words, place], stderr=subprocess.DEVNULL).returncode
-    rows.skipped += not is_mounted
-    try:
-        yield is_mounted
-    finally:
-        if is_mounted:
-            subprocess.run(["umount", place], check=True)
-
-
-def mounted(rows: Rows) -> None:
-    """A name on which another file is mounted: that file gets the bytes."""
-    other, name = rows.folder(other=OLD) / "other", "a mounted file"
-    with mount(rows, other, "--bind", other) as is_permitted:
-        pass
-    for text in ("", OLD, "old" * 1000) if is_permitted else ():
-        other.write_text(text)
-        folder = rows.row(name, "solve G O", 0, RESULT, {"O": PAIRS}, f"mount --bind {other} O")
-        subprocess.run(["umount", folder / "O"], check=True)
-        if (other.read_text(), held(folder / "O")) != (PAIRS, OLD):
-            rows.wrong.append(f"{name}: {held(other)!r:.60} and {held(folder / 'O')!r:.60}")
-
-
-def disks(rows: Rows) -> None:
-    """Files that don't fit on a disk."""
-    disk = rows.folder()
-    file, made = disk / "C", f"gen scatter 1 256 2000 20 {disk / 'C'}"
-    fill = f"cat /dev/zero > {disk / 'filler'} 2> /dev/null || true"
-    cases = [("a game that doesn't fit", made, ""),
-             ("a game that doesn't fit, and a certificate", f"{made} O", ""),
-             ("a certificate that doesn't fit", f"solve G {file}", fill)]
-    with mount(rows, disk, "-t", "tmpfs", "-o", "size=64k,mode=777", "tmpfs") as is_permitted:
-        for name, words, before in cases if is_permitted else []:
-            file.write_text(OLD)
-            rows.row(name, words, 6, "", {"O": OLD}, before)
-            if held(file) != OLD or set(os.listdir(disk)) - {"C", "filler"}:
-                rows.wrong.append(f"{name}: the disk holds {sorted(os.listdir(disk))}")
 
 
 def swap(folder: pathlib.Path, targets: Any, stop: threading.Event) -> None:
@@ -209,43 +162,39 @@ def swap(folder: pathlib.Path, targets: Any, stop: threading.Event) -> None:
 
 def race(rows: Rows, count: int, targets: Any) -> None:
     """Stores under the name L, which is swapped all the time. No file may be harmed."""
-    folder, stop, counts = rows.folder(G=GAME), threading.Event(), collections.Counter()
+    folder, stop = rows.folder(G=GAME), threading.Event()
+    ends = rows.ends[f"store at a link to {', '.join(it or 'a plain file' for it in targets)}"]
     (folder / "L").symlink_to("V")
     swapping = threading.Thread(target=swap, args=(folder, targets, stop))
     swapping.start()
     for number in range(count):
         (folder / "V").write_text("victim\n")
-        status, found = rows.ended("solve G L", folder)[0], held(folder / "V")
-        counts[f"status {status}, the {'new' if found == PAIRS else 'old'} bytes"] += 1
+        status, found = rows.ended("solve G L", folder)[0], held(folder, "V")
+        ends[f"status {status}, the {'new' if found == PAIRS else 'old'} bytes"] += 1
         is_whole = os.path.islink("/proc/self") and not os.path.isfile("/dev/null")
         if found not in ("victim\n", PAIRS) or status not in (0, 6):
             rows.wrong.append(f"race {number}: status {status}, the victim holds {found!r:.60}")
-        if held(folder / "G") != GAME or not is_whole:
+        if held(folder, "G") != GAME or not is_whole:
             rows.wrong.append(f"race {number}: another file was harmed")
     stop.set()
     swapping.join()
     rows.wrong += [f"race: {part} is left" for part in parts(folder)]
-    names = ", ".join(it or "a plain file" for it in targets)
-    for what, many in sorted(counts.items()):
-        rows.table.row(f"store at a link to {names}", what, many)
 
 
 def pairs(rows: Rows, given: argparse.Namespace) -> None:
     """Two runs at once make a game and a certificate under the same two names: they must fit."""
-    draw, folder, ends = random.Random(given.seed), rows.folder(), collections.Counter()
+    draw, folder = random.Random(given.seed), rows.folder()
     for number in range(given.pairs):
         runs = []
         for words in draw.sample(OTHERS, 2):
             command = [rows.program, "gen", *words.split(), "H", "D"]
             runs.append(subprocess.Popen(command, cwd=folder, stdout=subprocess.DEVNULL))
             time.sleep(draw.choice((0, 0, 0.001, 0.002)) * draw.random())
-        statuses = tuple(sorted(run.wait() for run in runs))
-        ends[statuses] += 1
+        one, other = statuses = sorted(run.wait() for run in runs)
+        rows.ends["two runs at once"][f"statuses {one} and {other}"] += 1
         fits = rows.ended("check H D", folder)[0]
-        if statuses not in ((0, 0), (0, 6)) or fits != 0 or parts(folder):
+        if statuses not in ([0, 0], [0, 6]) or fits != 0 or parts(folder):
             rows.wrong.append(f"pair {number}: statuses {statuses}, check {fits}, {parts(folder)}")
-    for (one, other), many in sorted(ends.items()):
-        rows.table.row("two runs at once", f"statuses {one} and {other}", many)
 
 
 def when_made(path: pathlib.Path) -> Any:
@@ -279,7 +228,7 @@ def faults_of_kill(folder: pathlib.Path, due: tuple[str, str]) -> Iterator[str]:
         yield f"C holds {len(stored)} bytes, G {len(game)}"
     if stored == due[1] and game != due[0]:
         yield "the certificate is new, and the game old"
-    if held(folder / "O") != "other\n":
+    if held(folder, "O") != "other\n":
         yield "O holds something else"
     for new in set(os.listdir(folder)) - {"G", "C", "O", "G.posgame-part0", "C.posgame-part0"}:
         yield f"{new} is new"
@@ -287,7 +236,7 @@ def faults_of_kill(folder: pathlib.Path, due: tuple[str, str]) -> Iterator[str]:
 
 def kills(rows: Rows, given: argparse.Namespace) -> None:
     """Kills runs in one folder, looks at what each name holds then, and at last lets one end."""
-    draw, counts = random.Random(given.seed), collections.Counter()
+    draw, ends = random.Random(given.seed), rows.ends["kills"]
     folder = rows.folder(O="other\n")
     whole = kit.run(rows.program, *MANY, folder=folder).seconds
     due = (folder / "G").read_text(), (folder / "C").read_text()
@@ -297,37 +246,34 @@ def kills(rows: Rows, given: argparse.Namespace) -> None:
         status = one_kill(rows.program, folder, draw, whole)
         name = f"kill {number} of seed {given.seed}"
         rows.wrong += [f"{name}: {it}" for it in faults_of_kill(folder, due)]
-        counts["the old bytes" if held(folder / "C") == OLD else "the new bytes"] += 1
-        counts["before the kill"] += status == 0
-        counts["with a part left"] += bool(parts(folder))
+        ends["the old bytes" if held(folder, "C") == OLD else "the new bytes"] += 1
+        ends["before the kill"] += status == 0
+        ends["with a part left"] += bool(parts(folder))
     last = kit.run(rows.program, *MANY, folder=folder)
-    if last.status or sorted(os.listdir(folder)) != ["C", "G", "O"] or held(folder / "C") != due[1]:
+    if last.status or sorted(os.listdir(folder)) != ["C", "G", "O"] or held(folder, "C") != due[1]:
         rows.wrong.append(f"the run after {given.kills} kills: {sorted(os.listdir(folder))}")
-    for what, many in counts.items():
-        rows.table.row("kills", what, many)
 
 
 def main() -> int:
-    words = kit.parser(__doc__)
-    for what, count in ("kills", 200), ("races", 200), ("pairs", 150), ("seed", 1):
-        words.add_argument(f"--{what}", type=int, default=count, help=f"{count} if left out")
-    given = words.parse_args()
+    given = kit.options(__doc__, kills=200, races=200, pairs=150, seed=1)
     with tempfile.TemporaryDirectory() as top:
         os.chmod(top, 0o755)
         rows = Rows(shutil.copy(given.program, os.path.join(top, "program")), top)
         os.chmod(rows.program, 0o755)
-        for part in listed, closed_streams, modes, stale_parts, mounted, disks:
+        for part in listed, closed_streams, stale_parts:
             part(rows)
-        rows.table.row("rows of files, names and streams", "", rows.rows)
-        rows.table.row("rows of files, names and streams", "otherwise", len(rows.wrong))
-        rows.table.row("parts of the rows", "not permitted", rows.skipped)
+        rows.ends[ROWS]["otherwise"] = len(rows.wrong)
         for count, *targets in ((given.races, "/dev/null", "V"), (given.races // 2, None, "V"),
                                 (given.races // 2, "/dev/null", None, "V", "/proc/self/fd/1")):
             race(rows, count, targets)
         pairs(rows, given)
         if given.kills:
             kills(rows, given)
-        return kit.end(rows.wrong)
+    table = kit.Table("what", "ended", "times")
+    for what, ends in rows.ends.items():
+        for end, many in sorted(ends.items()):
+            table.row(what, end, many)
+    return kit.end(rows.wrong)
 
 
 if __name__ == "__main__":
