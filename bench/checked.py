@@ -8,7 +8,7 @@ Callgrind counts the calls, by the name of the checker's function, in runs of `p
 many are due is found by `posgame solve`: it solves the position before the first move, and each
 later one unless the last certificate has a node with that position in each of its claims.
 
-Its examples are tried by `python3 -m doctest bench/checked.py`. Unproved.
+Its examples are tried by `bench/test_examples.py`. Unproved.
 """
 from __future__ import annotations
 

@@ -17,7 +17,7 @@ No word changes: each part that is laid out is read again and compared. A text t
 (`crates/*/must-fail`, `bench/edits`) looks for in one line stays in one line. What is too wide
 then is what `bench/width.py --only sources` lists.
 
-Its examples are tried by `python3 -m doctest bench/lay_out.py`. Unproved.
+Its examples are tried by `bench/test_examples.py`. Unproved.
 """
 from __future__ import annotations
 

@@ -7,7 +7,7 @@ where something is proved.
     bench/theorem.py --check    writes nothing; the status is 1 if the file differs from the
                                 sources, or a name isn't there
 
-Its examples are tried by `python3 -m doctest bench/theorem.py`. Nothing is proved of this script.
+Its examples are tried by `bench/test_examples.py`. Nothing is proved of this script.
 """
 import itertools
 import re

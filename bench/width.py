@@ -1,15 +1,15 @@
 #!/usr/bin/env python3
-"""Lists the lines that are too long, as FILE:LINE: N columns.
+"""Lists the lines that are too long, as FILE:LINE: N columns, and functions with many clauses.
 
     bench/width.py                      all kinds of file
     bench/width.py --only docs scripts  these kinds only
 
 A line has at most 100 characters, and a row of a table of Markdown 120. Not counted are imports of
-a name that is too wide alone, and imports and attributes of Rust code. The status is 1 if a line is
-too long. The files are those that git knows, or would take. Of a line of a source it is said what
-is to be done.
+a name that is too wide alone, and imports and attributes of Rust code. A function of a crate has at
+most seven clauses, `requires` and `ensures` together. The status is 1 if there is more. The files
+are those that git knows, or would take. Of a line of a source it is said what is to be done.
 
-Its examples are tried by `python3 -m doctest bench/width.py`. Nothing is proved of this script.
+Its examples are tried by `bench/test_examples.py`. Nothing is proved of this script.
 """
 from __future__ import annotations
 
@@ -27,6 +27,10 @@ COLUMNS = 100
 TABLE_COLUMNS = 120
 KINDS = ("sources", "docs", "scripts", "examples")
 GAMES = (".game", ".cert", ".record")
+MOST_CLAUSES = 7
+# The crates whose calls hand on the clauses of the top call `run`, however many it has.
+HANDED_ON = ("pg_cli", "pg_sessions", "pg_solve")
+HEAD = re.compile(r"^ *(?:pub(?:\(\w+\))? +)?(?:(?:const|unsafe) +)*fn +(\w+)", re.MULTILINE)
 
 
 def tracked() -> list[str]:
@@ -144,26 +148,42 @@ def too_long(name: str, kind: str) -> Iterator[tuple[int, str]]:
             yield number, f"{len(line)} columns{what}"
 
 
+def crowded(name: str, text: str) -> Iterator[tuple[int, str]]:
+    """Yields, of each function of a crate's source with too many clauses, its line and their count.
+
+    >>> text = "fn a();\\n    pub fn b()\\n" + "    requires {0 < 1}\\n    ensures {true}\\n" * 4
+    >>> [*crowded("crates/pg_base/src/lib.rt", text)], [*crowded("crates/pg_cli/src/lib.rt", text)]
+    ([(2, 'b has 8 clauses')], [])
+    """
+    crate = re.match(r"crates/(\w+)/src/.*\.rt$", name)
+    heads = [] if not crate or crate[1] in HANDED_ON else [*HEAD.finditer(text)]
+    for head, end in zip(heads, [*(it.start() for it in heads[1:]), len(text)]):
+        count = len(re.findall(r"^ *(?:requires|ensures)\b", text[head.end():end], re.MULTILINE))
+        if count > MOST_CLAUSES:
+            yield text.count("\n", 0, head.start()) + 1, f"{head[1]} has {count} clauses"
+
+
 def main() -> int:
-    """Lists the lines, and returns the status."""
+    """Lists the lines and the functions, and returns the status."""
     words = argparse.ArgumentParser(description=__doc__.split("\n\n")[0])
     words.add_argument("--only", nargs="+", choices=KINDS, default=KINDS, metavar="KIND",
                        help=f"these kinds of file: {', '.join(KINDS)}")
     words.add_argument("--count", action="store_true", help="a number for each file, no lines")
     given = words.parse_args()
-    files = [(name, kind_of(name)) for name in tracked()]
-    found = 0
-    for name, kind in files:
+    wide = many = 0
+    for name, kind in ((name, kind_of(name)) for name in tracked()):
         if kind not in given.only:
             continue
         lines = list(too_long(name, kind))
-        found += len(lines)
-        if given.count and lines:
-            print(f"{name}: {len(lines)}")
+        heads = list(crowded(name, (TOP / name).read_text(encoding="utf-8", errors="replace")))
+        wide, many = wide + len(lines), many + len(heads)
+        if given.count and lines + heads:
+            print(f"{name}: {len(lines + heads)}")
         elif not given.count:
-            print("".join(f"{name}:{number}: {what}\n" for number, what in lines), end="")
-    print(f"{found} lines are too long in {', '.join(given.only)}")
-    return 1 if found else 0
+            print("".join(f"{name}:{number}: {what}\n" for number, what in lines + heads), end="")
+    print(f"{wide} lines are too long in {', '.join(given.only)}, and {many} functions have more "
+          f"than {MOST_CLAUSES} clauses")
+    return int(wide + many > 0)
 
 
 if __name__ == "__main__":

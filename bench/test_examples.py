@@ -1,0 +1,22 @@
+"""Tries the examples in docstrings of scripts: `python3 -m unittest discover -s bench`. Unproved.
+"""
+from __future__ import annotations
+
+import doctest
+import unittest
+
+import checked
+import lay_out
+import theorem
+import width
+
+
+def load_tests(_: unittest.TestLoader, tests: unittest.TestSuite, __: object) -> unittest.TestSuite:
+    """Adds the examples of each script."""
+    for script in checked, lay_out, theorem, width:
+        tests.addTests(doctest.DocTestSuite(script))
+    return tests
+
+
+if __name__ == "__main__":
+    unittest.main()
