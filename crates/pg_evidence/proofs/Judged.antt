@@ -2,17 +2,21 @@
 use Rattle.std.proofs.Common.{◌≡◌, ℕ, ◌+◌, Bool, true, false, nat_lt, [], length, take, Option}
 use Rattle.std.proofs.Common.{Some, None, Result, Ok, Err, refl, sym, ◌∙◌, ap, subst, if◌then◌else◌}
 use Rattle.std.specs.Prelude.{IsErrAnd}
-use Rattle.pg_evidence.proofs.Common.{append-nil, and_then, Bytes, Holding, Cert, certificate}
+use Rattle.pg_evidence.proofs.Common.{and_then, Bytes, Holding, Cert, certificate, IsReadAs}
 use Rattle.pg_evidence.proofs.Common.{number_of, Fault, Game, ImageCert, image_certificate}
 use Rattle.pg_evidence.proofs.Common.{certificate_fault, or_halt, Halt}
 use Rattle.pg_io.specs.Reading.{IsFile, IsWhole, Pours}
 use Rattle.pg_cert_lines.specs.declared.fault.Fault.TheVariants.{Size}
 use Rattle.pg_cert_files.specs.declared.limits.TheConstants.{MAX_CERT_BYTES}
+use Rattle.pg_image.specs.Gathering.{said_within}
+use Rattle.pg_image.proofs.Gatherings.{whole_within}
 use Rattle.pg_talk.specs.Reading.{IsReadAs as IsHeldAs}
 use Rattle.pg_talk.proofs.Openings.{cut_same, opens_whole, read_bad, whole_read}
+use Rattle.pg_text.specs.declared.error.FileError.{FileError}
+use Rattle.pg_text.specs.declared.error.FileError.TheVariants as outcomes
 use Rattle.pg_evidence.specs.Arriving.{Arrives, HasArrived}
 use Rattle.pg_evidence.specs.Evidence.{OpensEvidence, evidence, evidence_held, has_images}
-use Rattle.pg_evidence.specs.Incoming.{HasCome, HasTaken, IsKept, game_of}
+use Rattle.pg_evidence.specs.Incoming.{HasCome, HasTaken, game_of}
 use Rattle.pg_evidence.specs.Verdicts.{IsJudgedAs, JudgesEvidence}
 use Rattle.pg_evidence.specs.declared.arriving.Arriving.{Arriving}
 use Rattle.pg_evidence.specs.declared.evidence.Evidence.{Evidence}
@@ -88,6 +92,29 @@ bad_plain text number line none bad =
       go (Ok c) h = absurd h
       go (Err fault) h = h
 
+-- a fault of the text as one with images is a fault of it
+pub bad_folded : (text : Bytes) (number line : ℕ)
+    → has_images text ≡ true
+    → HasFormFault (image_certificate text) number line
+    → HasFormFault (evidence text) number line
+bad_folded text number line has bad =
+    subst (λ (r : Result Evidence (Fault × ℕ)). HasFormFault r number line)
+    (sym (folded_way text has)) (go (image_certificate text) bad) where
+      go : (r : Result ImageCert (Fault × ℕ))
+          → HasFormFault r number line
+          → HasFormFault (and_then r (λ (c : ImageCert). Ok (Folded c))) number line
+      go (Ok c) h = absurd h
+      go (Err fault) h = h
+
+-- what reading it as one with images gives is what it says
+pub read_as_folded : (text : Bytes) (error : FileError)
+    → has_images text ≡ true
+    → IsReadAs {A = ImageCert} (Err error) (said_within text text)
+    → IsReadAs {A = Evidence} (Err error) (evidence text)
+read_as_folded text outcomes.Memory has h = tt
+read_as_folded text (outcomes.Bad number line) has h = bad_folded text number line has
+    (subst (λ (r : Result ImageCert (Fault × ℕ)). HasFormFault r number line) (whole_within text) h)
+
 -- ---- what a name holds
 
 -- what the text says
@@ -145,14 +172,6 @@ opens_evidence h name text r whole is =
     opens_whole MAX_CERT_BYTES held_text held_cut (λ (x : Evidence). x) h name text r whole is
 
 -- ---- what was judged as it came
-
--- nothing was kept
-pub never_kept : (o : Option Bytes) (text : Bytes)
-    → o ≡ None
-    → IsKept o text
-    → has_images text ≡ false
-never_kept o text none kept =
-    ap has_images (sym (append-nil text)) ∙ subst (λ (o : Option Bytes). IsKept o text) none kept []
 
 -- what came is what the name holds
 pub judged_evidence : (h : Option Holding) (g : Game) (name : Bytes) (before after : Incoming)

@@ -4,3 +4,7 @@ pub mod Coming
 pub mod Tracing
 pub mod Judged
 pub mod Feeding
+pub mod SameImages
+pub mod SameUnfoldings
+pub mod SameVerdicts
+pub mod Keeping

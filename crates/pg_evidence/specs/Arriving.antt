@@ -1,13 +1,13 @@
 -- A certificate that comes piece by piece and is gathered, while it isn't known yet in which form.
-use Rattle.std.specs.Prelude.{◌++◌, option_map}
+use Rattle.std.specs.Prelude.{◌++◌}
 use Rattle.pg_evidence.specs.Prelude.{Bytes, HasGathered}
 use Rattle.pg_evidence.specs.Incoming.{IsKept}
 use Rattle.pg_evidence.specs.declared.arriving.Arriving.{Arriving}
 
--- this text came
+-- this text came, and was gathered whole
 pub record HasArrived (a : Arriving) (text : Bytes) : Type 0 where
   pub gathered : HasGathered a.gathering text
-  pub kept : IsKept (option_map (λ bytes. bytes.items) a.kept) text
+  pub kept : IsKept a.kept text text
 
 -- some text came
 pub record IsArriving (a : Arriving) : Type 0 where

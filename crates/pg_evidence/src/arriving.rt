@@ -2,7 +2,7 @@
 ghost use Rattle.std.specs.Prelude.{[]};
 ghost use Rattle.pg_evidence.specs.Arriving.{Arrives, HasArrived, IsArriving};
 
-use crate::incoming::keep;
+use crate::kept::Kept;
 use pg_base::Memory;
 use pg_cert_files::CertGathering;
 use pg_io::Sink;
@@ -10,14 +10,14 @@ use std::alloc::Global;
 
 /// A certificate whose bytes come piece by piece, in either form: a sink that gathers it.
 ///
-/// It is gathered as one of plain nodes as it comes. Its text is kept whole while it may be one
-/// with images, which its first line shows.
+/// It is gathered as one of plain nodes as it comes, and also as one with images while it may be
+/// one, which its first line shows.
 #[derive(Drop)]
 pub(crate) struct Arriving {
     /// What the bytes say as those of a certificate of plain nodes.
     pub(crate) gathering: CertGathering,
-    /// All bytes, unless they have no images.
-    pub(crate) kept: Option<Vec<u8>>,
+    /// What they say as those of one with images.
+    pub(crate) kept: Kept,
 }
 
 impl Arriving {
@@ -28,7 +28,7 @@ impl Arriving {
     {
         Arriving {
             gathering: CertGathering::new(alloc),
-            kept: Some(Vec::new(alloc)),
+            kept: Kept::new(alloc),
         }
     }
 }
@@ -40,7 +40,6 @@ impl Sink for Arriving {
 
     fn take(&mut self, alloc: Global, piece: &[u8]) -> Result<(), Memory> {
         self.gathering.take(alloc, piece)?;
-        self.kept = keep(self.kept.take(), piece)?;
-        Ok(())
+        self.kept.take(alloc, piece)
     }
 }

@@ -1,21 +1,24 @@
 //! Judging a certificate of either form for a game as its file is read.
 ghost use Rattle.std.specs.Prelude.{◌≡◌, true, false, List, ℕ, IfErr, IfOk, Some};
-ghost use Rattle.pg_evidence.specs.Prelude.{IsAbsent, ReadsOnly, IsReadAs, IsImageWithinLimits, image_certificate, IsReady, HaltCauses, IsReadHalt};
+ghost use Rattle.pg_evidence.specs.Prelude.{IsAbsent, ReadsOnly, IsImageWithinLimits, IsReady};
+ghost use Rattle.pg_evidence.specs.Prelude.{HaltCauses, IsReadHalt};
+ghost use Rattle.pg_image.specs.Gathering.{Gathers, IsGathering};
+ghost use Rattle.pg_image.specs.Shortened.{AreAlike};
 ghost use Rattle.pg_judge.specs.Judged.{StandsFor as HasBeenFed};
 ghost use Rattle.pg_evidence.specs.Evidence.{IsInnerHalt, evidence_held, has_images};
-ghost use Rattle.pg_evidence.specs.Incoming.{HasTaken, game_of};
+ghost use Rattle.pg_evidence.specs.Incoming.{HasTaken, IsComing, game_of};
 ghost use Rattle.pg_evidence.specs.declared.evidence.Evidence.TheVariants.{Folded};
 ghost use Rattle.pg_evidence.specs.Verdicts.{IsFound, IsJudgedAs, JudgesEvidence};
 
 use crate::folded::check_folded;
 use crate::heads::image_heads;
-use crate::incoming::{Incoming, with_images};
+use crate::incoming::Incoming;
 use crate::verdict::Verdict;
 use pg_base::Memory;
 use pg_cert_files::{CertFault, MAX_CERT_BYTES};
 use pg_check::Rejected;
 use pg_game::Game;
-use pg_image::{ImageCert, read_image};
+use pg_image::{ImageCert, ImageGathering};
 use pg_io::{Files, Stop, pour};
 use pg_judge::{JudgeFault, Judging};
 use pg_messages::Refusal;
@@ -42,22 +45,16 @@ fn judge_folded(alloc: Global, game: &Game, certificate: &ImageCert) -> Result<V
     }
 }
 
-/// Reads the certificate with images of a text, which is dropped with that.
-fn read_images(alloc: Global, text: Vec<u8>) -> Result<ImageCert, CertFault>
-    ensures read { IsReadAs result (image_certificate text.items) }
-    ensures limits { IfOk result IsImageWithinLimits }
-{
-    read_image(alloc, &text)
-}
-
-/// What judging the certificate of a text with images for a game finds. The text is dropped before
-/// a node of the unfolding is made.
-fn judge_images(alloc: Global, game: &Game, text: Vec<u8>) -> Result<Verdict, Halt>
-    ensures judged { has_images text.items ≡ true
-        → IsJudgedAs game.now (evidence_held (Some text.items)) result }
+/// What judging the certificate with images for a game finds of which a text was gathered that is
+/// like its own.
+fn judge_images(alloc: Global, game: &Game, images: ImageGathering) -> Result<Verdict, Halt>
+    requires { IsGathering images }
+    ensures judged { (text short : List ℕ) → Gathers images text short → AreAlike text short
+        → has_images text ≡ true
+        → IsJudgedAs game.now (evidence_held (Some text)) result }
     ensures halts { IfErr result IsInnerHalt }
 {
-    match read_images(alloc, text) {
+    match images.end(alloc) {
         Ok(certificate) => Ok(judge_folded(alloc, game, &certificate)?),
         Err(CertFault::Bad { number, line }) => {
             Err(Halt::Refused(Refusal::Certificate { number, line }))
@@ -85,22 +82,22 @@ fn judge_plain(alloc: Global, judging: Judging<'_>) -> Result<Verdict, Halt>
 
 /// What judging the certificate for a game finds whose bytes have come.
 fn judge_come(alloc: Global, game: &Game, incoming: Incoming<'_>) -> Result<Verdict, Halt>
-    requires { IsReady incoming.judging }
+    requires { IsComing incoming }
     ensures judged { (text : List ℕ) → HasTaken incoming.entry text
         → game_of incoming.entry ≡ game.now
         → IsJudgedAs game.now (evidence_held (Some text)) result }
     ensures halts { IfErr result IsInnerHalt }
 {
     let Incoming { judging, kept } = incoming;
-    match with_images(kept) {
-        Some(text) => judge_images(alloc, game, text),
+    match kept.with_images() {
+        Some(images) => judge_images(alloc, game, images),
         None => judge_plain(alloc, judging),
     }
 }
 
 /// What judging the certificate under this name for a game finds. One of plain nodes is judged
-/// piece by piece as it is read, to its end; one with images is read whole, and then each node of
-/// its unfolding is made, checked and dropped.
+/// piece by piece as it is read, to its end; one with images is gathered piece by piece, and then
+/// each node of its unfolding is made, checked and dropped.
 ///
 /// # Errors
 ///

@@ -9,6 +9,7 @@ mod folded;
 mod heads;
 mod incoming;
 mod judging;
+mod kept;
 mod opening;
 mod standing;
 mod verdict;

@@ -1,26 +1,29 @@
 //! Reading a certificate of either form as its file comes.
 ghost use Rattle.std.specs.Prelude.{◌≡◌, true, false, List, ℕ, IfErr, IfOk};
-ghost use Rattle.pg_evidence.specs.Prelude.{IsAbsent, ReadsOnly, HasGathered, IsReadAs, HaltCauses, IsReadHalt};
+ghost use Rattle.pg_evidence.specs.Prelude.{IsAbsent, ReadsOnly, HasGathered, IsReadAs, HaltCauses};
+ghost use Rattle.pg_evidence.specs.Prelude.{IsReadHalt};
+ghost use Rattle.pg_image.specs.Gathering.{Gathers};
 ghost use Rattle.pg_evidence.specs.Arriving.{HasArrived};
 ghost use Rattle.pg_evidence.specs.Evidence.{IsWithinItsLimits, OpensEvidence};
 ghost use Rattle.pg_evidence.specs.Evidence.{evidence, has_images};
 
 use crate::arriving::Arriving;
 use crate::evidence::Evidence;
-use crate::incoming::with_images;
 use pg_cert_files::{CertFault, CertGathering, MAX_CERT_BYTES};
-use pg_image::read_image;
+use pg_image::ImageGathering;
 use pg_io::{Files, Stop, pour};
 use pg_messages::Refusal;
 use pg_talk::Halt;
 use std::alloc::Global;
 
-/// The certificate of a text with images, or its first fault with the number of the line.
-fn read_folded(alloc: Global, text: &[u8]) -> Result<Evidence, CertFault>
-    ensures read { has_images text.now ≡ true → IsReadAs result (evidence text.now) }
-    ensures limits { IfOk result IsWithinItsLimits }
+/// The certificate with images that was gathered, or its first fault with the number of the line.
+fn read_folded(alloc: Global, images: ImageGathering) -> Result<Evidence, CertFault>
+    ensures read { (text : List ℕ) → Gathers images text text → has_images text ≡ true
+        → IsReadAs result (evidence text) }
+    ensures limits { IfOk result (λ found. (text : List ℕ) → Gathers images text text
+        → IsWithinItsLimits found) }
 {
-    match read_image(alloc, text) {
+    match images.end(alloc) {
         Ok(certificate) => Ok(Evidence::Folded(certificate)),
         Err(fault) => Err(fault),
     }
@@ -48,14 +51,13 @@ fn read_arrived(alloc: Global, arriving: Arriving) -> Result<Evidence, CertFault
         → IsWithinItsLimits found) }
 {
     let Arriving { gathering, kept } = arriving;
-    match with_images(kept) {
-        Some(text) => read_folded(alloc, &text),
+    match kept.with_images() {
+        Some(images) => read_folded(alloc, images),
         None => read_plain(alloc, gathering),
     }
 }
 
-/// The certificate under this name, in either form. One of plain nodes is gathered piece by piece
-/// as it is read; of one with images the text is read whole first.
+/// The certificate under this name, in either form, gathered piece by piece as it is read.
 ///
 /// # Errors
 ///

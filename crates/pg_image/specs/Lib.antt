@@ -6,3 +6,5 @@ pub mod ImageLine
 pub mod ImageFile
 pub mod FirstFault
 pub mod Views
+pub mod Shortened
+pub mod Gathering

@@ -15,7 +15,10 @@ pub use Rattle.pg_cert.specs.declared.node.Body.{Body}
 pub use Rattle.pg_cert.specs.declared.node.Body.TheVariants.{Move}
 pub use Rattle.pg_cert.specs.declared.node.Node.{Node}
 pub use Rattle.pg_cert.specs.declared.part.Part.{Part}
-pub use Rattle.pg_cert_files.specs.CertFile.{Gathered, Step, behind, end_fault, listed, start, step}
+pub use Rattle.pg_cert_files.specs.CertFile.{Gathered, Step, behind, end_fault, listed, start}
+unfoldable pub use Rattle.pg_cert_files.specs.CertFile.{step}
+pub use Rattle.pg_cert_files.specs.Pieces.{size_of}
+pub use Rattle.pg_cert_files.specs.Shortened.{short_node}
 pub use Rattle.pg_cert_files.specs.declared.limits.TheConstants.{MAX_CERT_BYTES}
 pub use Rattle.pg_cert_files.specs.declared.progress.Due.{Due}
 pub use Rattle.pg_cert_files.specs.declared.progress.Progress.{Progress}

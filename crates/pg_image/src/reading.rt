@@ -5,9 +5,8 @@ ghost use Rattle.pg_image.specs.Limits.{IsImageWithinLimits};
 ghost use Rattle.pg_image.specs.ImageFile.{image_certificate};
 
 use crate::cert::ImageCert;
-use crate::draft::ImageDraft;
-use pg_cert_files::{CertFault, Fault, MAX_CERT_BYTES};
-use pg_text::Lines;
+use crate::image_gathering::ImageGathering;
+use pg_cert_files::CertFault;
 use std::alloc::Global;
 
 /// The certificate that a file of version 3 says, or its first fault with the number of the line.
@@ -25,17 +24,7 @@ pub fn read_image(alloc: Global, bytes: &[u8]) -> Result<ImageCert, CertFault>
     ensures read { IsReadAs result (image_certificate bytes.now) }
     ensures limits { IfOk result IsImageWithinLimits }
 {
-    if bytes.len() > MAX_CERT_BYTES {
-        return Err(CertFault::at_line(Fault::Size, 0));
-    }
-    let mut draft = ImageDraft::new(alloc);
-    let mut number = 1;
-    for line in Lines::of(bytes) {
-        draft = match draft.read(alloc, line) {
-            Ok(next) => next,
-            Err(error) => return Err(error.at(number)),
-        };
-        number += 1;
-    }
-    draft.finish(number)
+    let mut gathering = ImageGathering::new(alloc);
+    gathering.take(alloc, bytes)?;
+    gathering.end(alloc)
 }
