@@ -5,9 +5,10 @@
     bench/width.py --only docs scripts  these kinds only
 
 A line has at most 100 characters, and a row of a table of Markdown 120. Not counted are imports of
-a name that is too wide alone, and imports and attributes of Rust code. A function of a crate has at
-most seven clauses, `requires` and `ensures` together. The status is 1 if there is more. The files
-are those that git knows, or would take. Of a line of a source it is said what is to be done.
+a name that is too wide alone, and attributes, which `rt fmt` keeps in one line. A function of a
+crate has at most seven clauses, `requires` and `ensures` together. The status is 1 if there is
+more. The files are those that git knows, or would take. Of a line of a source it is said what is
+to be done.
 
 Its examples are tried by `bench/test_examples.py`. Nothing is proved of this script.
 """
@@ -72,17 +73,19 @@ def limit(kind: str, line: str) -> int | None:
     """Returns the most columns that a line may have, or None if it may have any number.
 
     >>> limit("docs", "| a | b |"), limit("docs", "text"), limit("sources", "ghost use a.{b, c};")
-    (120, 100, None)
+    (120, 100, 100)
     >>> limit("sources", "use Rattle.a.{b, c}"), limit("sources", "use Rattle.a.{%s}" % ("b" * 99))
     (100, None)
+    >>> limit("sources", "#[tactic(auto)]"), limit("sources", "pub use a::b;")
+    (None, 100)
     """
     if kind == "docs" and line.startswith("|"):
         return TABLE_COLUMNS
-    names = re.match(r"(\s*(?:unfoldable )?(?:pub )?use Rattle\.\S+\.\{)(.+)\}$", line)
+    names = re.match(r"(\s*(?:unfoldable )?(?:(?:pub|ghost) )?use Rattle\.\S+\.\{)(.+)\};?$", line)
     if kind == "sources" and names:
         widest = max(map(len, names[2].split(", ")))
         return COLUMNS if len(names[1]) + widest < COLUMNS else None
-    if kind == "sources" and re.match(r"\s*((unfoldable )?((pub|ghost) )?use \S|#\[)", line):
+    if kind == "sources" and re.match(r"\s*#\[", line):
         return None
     if kind == "examples" and not line.startswith("#"):
         return None
