@@ -530,7 +530,7 @@ def unfold_all(game: Game, claims: list[Claim]) -> list[tuple[Claim, list[int]]]
             raise Fault(f"rejected I4 claim {c} node {len(claim.nodes) - 1}")
     return unfolded
 
-# Connectivity games and games on vectors (FORMATS, "Two further families").
+# Connectivity games and games on vectors (FORMATS, the section of that name).
 def span_fault(game: Game, claim: Claim) -> int:
     """Returns the least of the errors S1 to S3 of a claim on a connectivity game, or 0."""
     turn, side, _, (node,) = claim
