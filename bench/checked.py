@@ -4,9 +4,10 @@
     bench/checked.py [PROGRAM]
 
 No clause can show that a review checks what it relies on, since solving promises that it is valid.
-Callgrind counts the calls, by the name of the checker's function, in runs of `posgame review`. How
-many are due is found by `posgame solve`: it solves the position before the first move, and each
-later one unless the last certificate has a node with that position in each of its claims.
+Callgrind counts the calls, by the name of the checker's function, in runs of `posgame review`. By
+`posgame solve` the script finds how many there must be: it solves the position before the first
+move, and each later one unless the last certificate has a node with that position in each of its
+claims.
 
 Its examples are tried by `bench/test_examples.py`. Unproved.
 """

@@ -11,7 +11,7 @@ the side that wins has no trees or no cuts.
 plain: the numbers of test_plain. First those of src/threat_rows.rt: at how many positions of small
 games the shortest threat line of the side to move forces none, one, two or three replies, and at
 how many there is none. Then, for connectivity games on two to four vertices and games on vectors of
-three signs, how many games X wins whoever moves, Y does, and the side to move does, over all
+three entries, how many games X wins whoever moves, Y does, and the side to move does, over all
 choices of points in order and all marks; and the same for five points without marks.
 
 families: a table of test_rows: whether disjoint pairs exist, found by trying all choices. A row is

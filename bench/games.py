@@ -13,7 +13,7 @@ searches: five boards are solved. The functions that take most of a count above 
 
 families: connectivity games and games on vectors are solved, what is stored is checked, and the
 side that wins is played against replies that go round the points. What reading takes is subtracted.
-Of the player's moves, each with the reply before it, the dearest is shown. The vectors of a
+Of the player's moves, each with the reply before it, the most expensive is shown. The vectors of a
 Bridg-it board must have the class of the board.
 
 certificates: large ones are checked, reading included, and their instructions counted on a smaller

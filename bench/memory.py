@@ -7,8 +7,9 @@ Every command is run, on real files, with a library that refuses the call of mal
 given number, from 1 on until a run makes no such call. Each run has to end as it should without
 that, or with what it prints cut short: with status 7, or with 5 or 6 if the allocation was inside a
 call on files or the console. A claim that is played is never followed by 7. A file has to contain
-what it did before or all that is due, and no other file may be left. In a review memory has to run
-out after the first loss too, since each loss is due before the next position is decided. Unproved.
+its old bytes or all of its new ones, and no other file may be left. In a review memory has to run
+out after the first loss too, since each loss must be printed before the next position is decided.
+Unproved.
 """
 from __future__ import annotations
 

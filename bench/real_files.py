@@ -5,7 +5,7 @@ it writes. It shares nothing with the crates.
     bench/real_files.py [PROGRAM] [--kills N] [--races N] [--pairs N] [--seed N]
 
 Each row, of bench/real_files.txt or of a function here, says what is in a folder of its own, the
-arguments, and what must come of it: the status, what is printed, and what files contain then.
+arguments, and how it must end: the status, what is printed, and what files contain then.
 Nothing may be on standard error, and no run may take more than twenty seconds. Files without
 permission are tried as nobody, if it is run as root; full disks and mounted files, if there is
 permission to mount. A link that is swapped all the time must harm no file, two runs at once must

@@ -6,9 +6,9 @@
 
 A line has at most 100 characters, and a row of a table of Markdown 120. Not counted are imports of
 a name that is too wide alone, and attributes, which `rt fmt` keeps in one line. A function of a
-crate has at most seven clauses, `requires` and `ensures` together. The status is 1 if there is
-more. The files are those that git knows, or would take. Of a line of a source it is said what is
-to be done.
+crate has at most seven clauses, `requires` and `ensures` together, except in three crates
+(`HANDED_ON`). The status is 1 if there is more. The files are those that git knows, or would take.
+For a line of a source it also says what to do.
 
 Its examples are tried by `bench/test_examples.py`. Nothing is proved of this script.
 """

@@ -1,4 +1,4 @@
-"""Reads the script of whole runs in crates/test_stories, which tells what is due from each."""
+"""Reads the script of whole runs in crates/test_stories, with what each run must leave."""
 from __future__ import annotations
 
 import pathlib
