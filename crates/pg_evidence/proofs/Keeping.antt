@@ -1,10 +1,11 @@
 -- What is kept of a certificate that may be one with images.
-use Rattle.std.proofs.Common.{◌≡◌, ◌∙◌, true, false, ◌++◌, Option, Some, None, sym, ap}
+use Rattle.std.proofs.Common.{◌≡◌, ◌∙◌, true, false, ◌++◌, Option, Some, None, refl, sym, ap}
 use Rattle.pg_evidence.proofs.Common.{Bytes}
+use Rattle.pg_image.specs.Gathering.{GathersShort}
 use Rattle.pg_image.specs.declared.image_gathering.ImageGathering.{ImageGathering}
 use Rattle.pg_image.proofs.Gatherings.{alike_more, alike_on}
 use Rattle.pg_evidence.specs.Evidence.{has_images}
-use Rattle.pg_evidence.specs.Incoming.{IsGathered, IsKept, IsKeptShort, IsShown}
+use Rattle.pg_evidence.specs.Incoming.{IsCut, IsGathered, IsKept, IsKeptShort, IsShown}
 use Rattle.pg_evidence.specs.declared.kept.Kept.{Kept}
 use Rattle.pg_evidence.proofs.FirstLines.{first_shows, never_images}
 
@@ -23,6 +24,16 @@ keeps_short before kept after piece takes cuts text h =
       alike = alike_on (text ++ piece) (h.shorter ++ piece) s.shorter
           (alike_more text h.shorter piece h.alike) s.alike;
     }
+
+-- ---- what is cut short
+
+pub cut_of : (n : ImageGathering) (text short : Bytes)
+    → GathersShort n text short
+    → IsCut (Some n) text short
+cut_of n text short s = record { shorter = s.shorter; gathered = s.gathers; alike = s.alike }
+
+pub uncut : (text short : Bytes) → IsGathered None text short → IsCut None text short
+uncut text short none = record { shorter = short; gathered = none; alike = λ more. refl }
 
 -- ---- in the end
 

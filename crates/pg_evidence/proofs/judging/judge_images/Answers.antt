@@ -26,7 +26,7 @@ pub returns-in-Err-Bad-clause-judged : goal.returns-in-Err-Bad-clause-judged
 returns-in-Err-Bad-clause-judged c text short gathers alike has =
     let number = c.in-Err-Bad.number in
     let line = c.in-Err-Bad.line in
-    held_bad text number line (bad_folded text number line has
+    rw c.in-Err-Bad.field-0-is (held_bad text number line (bad_folded text number line has
     (fails_like text short (λ bad. (number ≡ number_of bad.0) × (line ≡ bad.1)) alike
     (subst (λ (f : FileError). IsReadAs (Err f) (said_within text short))
-    c.in-Err-Bad.field-0-is (c.in-Err-Bad.ensures.read text short gathers))))
+    c.in-Err-Bad.field-0-is (c.in-Err-Bad.ensures.read text short gathers)))))
