@@ -1,6 +1,9 @@
 //! The answer by Avoider's potential.
-ghost use Rattle.std.specs.Prelude.{◌≡◌, ◌≢◌, ◌<◌, ◌^◌, ◌-◌, ℕ, length, get_or, map, false, true, if◌then◌else◌};
-ghost use Rattle.pg_avoider.specs.Prelude.{AvoiderEnforcer, Switching, XWins, X, Contains, is_free, point_count, free_points, is_full, is_over, outcome, after, IsPosition, least, avoider_answer, AvoiderHolds};
+ghost use Rattle.std.specs.Prelude.{◌≡◌, ◌≢◌, ◌<◌, ◌^◌, ◌-◌, ℕ, length, get_or, map, false, true};
+ghost use Rattle.std.specs.Prelude.{if◌then◌else◌};
+ghost use Rattle.pg_avoider.specs.Prelude.{AvoiderEnforcer, Switching, XWins, X, Contains, is_free};
+ghost use Rattle.pg_avoider.specs.Prelude.{point_count, free_points, is_full, is_over, outcome};
+ghost use Rattle.pg_avoider.specs.Prelude.{after, IsPosition, least, avoider_answer, AvoiderHolds};
 
 use pg_game::{Game, MAX_POINTS, Position, lowest_with, weigh};
 

@@ -1,6 +1,7 @@
 //! What Avoider's potential forces where it holds, as laws.
 ghost use Rattle.std.specs.Prelude.{◌≡◌, ◌<◌, ℕ, true};
-ghost use Rattle.pg_avoider.specs.Prelude.{Win, AvoiderEnforcer, X, Y, Game, Position, is_free, point_count, after, IsPosition, AvoiderHolds, Forces};
+ghost use Rattle.pg_avoider.specs.Prelude.{Win, AvoiderEnforcer, X, Y, Game, Position, is_free};
+ghost use Rattle.pg_avoider.specs.Prelude.{point_count, after, IsPosition, AvoiderHolds, Forces};
 
 /// In Avoider-Enforcer, Avoider's potential where it holds is a win for Avoider, whoever is to move
 /// and however many points Enforcer claims a turn.

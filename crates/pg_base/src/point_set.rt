@@ -1,5 +1,6 @@
 //! A set of points below 1,024, a bit for each.
-ghost use Rattle.std.specs.Prelude.{◌≡◌, ℕ, ◌<◌, ◌≤◌, ◌+◌, ◌*◌, ◌==◌, nat_lt, length, true, false, not, ◌&&◌, ◌||◌, IfSome, IfNone, IsTrue, ◌↔◌};
+ghost use Rattle.std.specs.Prelude.{◌≡◌, ℕ, ◌<◌, ◌≤◌, ◌+◌, ◌*◌, ◌==◌, nat_lt, length, true, false};
+ghost use Rattle.std.specs.Prelude.{not, ◌&&◌, ◌||◌, IfSome, IfNone, IsTrue, ◌↔◌};
 ghost use Rattle.std.specs.List.{All, list_any, list_all};
 ghost use Rattle.std.specs.FinSet as set;
 ghost use Rattle.pg_base.specs.Words.{words_of};

@@ -1,6 +1,11 @@
 //! Boards.
-ghost use Rattle.std.specs.Prelude.{◌≡◌, ◌≢◌, ◌<◌, ◌≤◌, ◌+◌, ◌*◌, ◌^◌, ◌++◌, ◌∷◌, [], true, length, get_or, nat_lt, ℕ, false, IfOk, IfSome, IfNone};
-ghost use Rattle.pg_board.specs.Prelude.{Contains, find, slice_get, ShareNone, other, Switching, is_free, point_count, lines_of, free_points, after, IsPosition, is_over, outcome, is_near, total, weight, greatest_weight, potential_holds, avoider_total, avoider_weight, avoider_holds};
+ghost use Rattle.std.specs.Prelude.{◌≡◌, ◌≢◌, ◌<◌, ◌≤◌, ◌+◌, ◌*◌, ◌^◌, ◌++◌, ◌∷◌, [], true, length};
+ghost use Rattle.std.specs.Prelude.{get_or, nat_lt, ℕ, false, IfOk, IfSome, IfNone};
+ghost use Rattle.pg_board.specs.Prelude.{Contains, find, slice_get, ShareNone, other, Switching};
+ghost use Rattle.pg_board.specs.Prelude.{is_free, point_count, lines_of, free_points, after};
+ghost use Rattle.pg_board.specs.Prelude.{IsPosition, is_over, outcome, is_near, total, weight};
+ghost use Rattle.pg_board.specs.Prelude.{greatest_weight, potential_holds, avoider_total};
+ghost use Rattle.pg_board.specs.Prelude.{avoider_weight, avoider_holds};
 ghost use Rattle.pg_game.specs.Decided.{by_end, defends};
 ghost use Rattle.pg_board.specs.Board.{line_at, degree, count_of, live_lines, live_with};
 ghost use Rattle.pg_board.specs.Near.{IsNearest, NoneNear};

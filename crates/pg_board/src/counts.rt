@@ -2,7 +2,8 @@
 ghost use Rattle.std.specs.Prelude.{◌≡◌, ◌≤◌, ◌+◌, ℕ, ◌==◌, ◌&&◌, length};
 ghost use Rattle.pg_board.specs.Prelude.{Side, other, one_if, Extends};
 ghost use Rattle.pg_board.specs.Shape.{count_cell, free_cell, cell_count};
-ghost use Rattle.pg_board.specs.Counts.{AreCounted, IsUnfilled, IsCountedMore, IsMoved, count_in, lines_in};
+ghost use Rattle.pg_board.specs.Counts.{AreCounted, IsUnfilled, IsCountedMore, IsMoved, count_in};
+ghost use Rattle.pg_board.specs.Counts.{lines_in};
 
 use crate::layout::Layout;
 use pg_base::Side;

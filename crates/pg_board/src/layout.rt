@@ -2,7 +2,8 @@
 ghost use Rattle.std.specs.Prelude.{◌≡◌, ◌≢◌, ◌<◌, ◌≤◌, ◌+◌, [], length, map, replicate, IfOk};
 ghost use Rattle.pg_board.specs.Prelude.{All, range_with_len, IsStrictlyIncreasing, Switching};
 ghost use Rattle.pg_board.specs.Gathered.{AreGathered};
-ghost use Rattle.pg_board.specs.Shape.{IsShape, shape_of, line_in, lines_through, mark_cell, count_cell, free_cell, cell_count, lines_holding};
+ghost use Rattle.pg_board.specs.Shape.{IsShape, shape_of, line_in, lines_through, mark_cell};
+ghost use Rattle.pg_board.specs.Shape.{count_cell, free_cell, cell_count, lines_holding};
 
 use crate::rows::{Row, Rows};
 use pg_base::{Line, Memory, Side};

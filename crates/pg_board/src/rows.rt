@@ -1,5 +1,6 @@
 //! Lists of numbers, one after the other in one array.
-ghost use Rattle.std.specs.Prelude.{◌≡◌, ◌++◌, ◌∷◌, [], ◌<◌, ◌≤◌, ◌+◌, ◌-◌, take, drop, length, get_or, replicate, IfOk};
+ghost use Rattle.std.specs.Prelude.{◌≡◌, ◌++◌, ◌∷◌, [], ◌<◌, ◌≤◌, ◌+◌, ◌-◌, take, drop, length};
+ghost use Rattle.std.specs.Prelude.{get_or, replicate, IfOk};
 ghost use Rattle.pg_board.specs.Rows.{row_at, AreStarts};
 
 use pg_base::Memory;

@@ -3,7 +3,8 @@ ghost use Rattle.std.specs.Prelude.{◌≡◌, ◌<◌, ◌≤◌, ◌+◌, ◌^
 ghost use Rattle.pg_board.specs.Prelude.{Y, other, is_free, points_of, line_weight};
 ghost use Rattle.pg_board.specs.Shape.{line_in};
 ghost use Rattle.pg_board.specs.Fits.{position_of};
-ghost use Rattle.pg_board.specs.Totals.{live_with_in, total_in, weight_in, greatest_in, Agree, IsBase};
+ghost use Rattle.pg_board.specs.Totals.{live_with_in, total_in, weight_in, greatest_in, Agree};
+ghost use Rattle.pg_board.specs.Totals.{IsBase};
 
 use crate::layout::Layout;
 use crate::points::is_unmarked;

@@ -1,9 +1,13 @@
 //! The text of a certificate.
 
-ghost use Rattle.std.specs.Prelude.{◌≡◌, ◌<◌, ◌||◌, true, ◌++◌, ◌∷◌, [], map, OnOk, IfOk, string_bytes};
-ghost use Rattle.pg_cert.specs.Prelude.{contains, decimal, flat_map, one_where, MAX_MEMBERS, BAR, spaced, behind_spaces};
+ghost use Rattle.std.specs.Prelude.{◌≡◌, ◌<◌, ◌||◌, true, ◌++◌, ◌∷◌, [], map, OnOk, IfOk};
+ghost use Rattle.std.specs.Prelude.{string_bytes};
+ghost use Rattle.pg_cert.specs.Prelude.{contains, decimal, flat_map, one_where, MAX_MEMBERS, BAR};
+ghost use Rattle.pg_cert.specs.Prelude.{spaced, behind_spaces};
 ghost use Rattle.pg_cert.specs.Limits.{IsNode, IsWithinLimits};
-ghost use Rattle.pg_cert.specs.Print.{separated, set_words, reply_word, pair_word, e_words, edge_words, body_name, body_words, body_text, turn_word, node_text, claim_text, header, printed_certificate};
+ghost use Rattle.pg_cert.specs.Print.{separated, set_words, reply_word, pair_word, e_words};
+ghost use Rattle.pg_cert.specs.Print.{edge_words, body_name, body_words, body_text, turn_word};
+ghost use Rattle.pg_cert.specs.Print.{node_text, claim_text, header, printed_certificate};
 
 use crate::cert::{Cert, Claim, Version};
 use crate::node::{Body, Node};

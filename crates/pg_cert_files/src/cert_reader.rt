@@ -1,6 +1,7 @@
 //! A certificate that is read as its bytes come.
 
-ghost use Rattle.std.specs.Prelude.{◌≡◌, ◌+◌, ◌-◌, ◌<◌, ◌≤◌, ◌++◌, [], List, ℕ, take, length, Ok, IfOk, IfSome, IfNone};
+ghost use Rattle.std.specs.Prelude.{◌≡◌, ◌+◌, ◌-◌, ◌<◌, ◌≤◌, ◌++◌, [], List, ℕ, take, length, Ok};
+ghost use Rattle.std.specs.Prelude.{IfOk, IfSome, IfNone};
 ghost use Rattle.pg_cert_files.specs.Prelude.{BeginCert, Cert};
 ghost use Rattle.pg_cert_files.specs.CertFile.{certificate, listed};
 ghost use Rattle.pg_cert_files.specs.Pieces.{IsFed, IsEnd, parts_told};

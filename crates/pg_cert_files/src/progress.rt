@@ -2,7 +2,8 @@
 
 ghost use Rattle.std.specs.Prelude.{◌≡◌};
 ghost use Rattle.pg_cert_files.specs.Steps.{Steps};
-ghost use Rattle.pg_cert_files.specs.CertFile.{step, start, header_step, claim_step, count_step, node_step, end_fault};
+ghost use Rattle.pg_cert_files.specs.CertFile.{step, start, header_step, claim_step, count_step};
+ghost use Rattle.pg_cert_files.specs.CertFile.{node_step, end_fault};
 
 use pg_cert::{MAX_CLAIM_NODES, MAX_CLAIMS, MAX_NODES, Part, Version};
 use pg_cert_lines::{Fault, Head, count_of, has_bar, head_of, node_line, version_of};

@@ -2,7 +2,8 @@
 
 ghost use Rattle.std.specs.Prelude.{◌≡◌, ◌||◌, ◌<◌, ◌≤◌, ◌∷◌, [], List, ℕ, length, IfOk, IfSome};
 ghost use Rattle.pg_cert_files.specs.Prelude.{contains, MAX_MEMBERS};
-ghost use Rattle.pg_cert_files.specs.Shortening.{ArePairs, EndsInClash, EndsInExcess, EndsInMany, EndsInPairs, IsFront, IsSpare, StandsShort};
+ghost use Rattle.pg_cert_files.specs.Shortening.{ArePairs, EndsInClash, EndsInExcess, EndsInMany};
+ghost use Rattle.pg_cert_files.specs.Shortening.{EndsInPairs, IsFront, IsSpare, StandsShort};
 ghost use Rattle.pg_cert_files.specs.Shortened.{HasBeenFed, IsFedShort};
 ghost use Rattle.pg_cert_files.specs.Reader.{StandsFor};
 ghost use Rattle.pg_cert_files.specs.Pieces.{IsFed};

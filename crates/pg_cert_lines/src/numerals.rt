@@ -1,8 +1,10 @@
 //! Numbers at the front of a text, each read in one walk over its digits.
 
-ghost use Rattle.std.specs.Prelude.{◌≡◌, ◌≢◌, ◌<◌, ◌-◌, true, false, Some, IfSome, length, get_or, option_map};
+ghost use Rattle.std.specs.Prelude.{◌≡◌, ◌≢◌, ◌<◌, ◌-◌, true, false, Some, IfSome, length, get_or};
+ghost use Rattle.std.specs.Prelude.{option_map};
 ghost use Rattle.pg_cert_lines.specs.Prelude.{is_ascii_digit, SPACE};
-ghost use Rattle.pg_cert_lines.specs.Numerals.{BeginsWith, IsLeading, IsFirstNumber, IsNumberBefore, AreTwoNumbers};
+ghost use Rattle.pg_cert_lines.specs.Numerals.{BeginsWith, IsLeading, IsFirstNumber};
+ghost use Rattle.pg_cert_lines.specs.Numerals.{IsNumberBefore, AreTwoNumbers};
 
 use pg_text::MAX_DIGITS;
 

@@ -1,11 +1,15 @@
 //! The numbers of a node line.
 
 ghost use Rattle.std.specs.Prelude.{◌≡◌, ◌<◌, map, IfOk, IfSome, option_map};
-ghost use Rattle.pg_cert_lines.specs.Prelude.{empty, All, number, parts, two_parts, words_of, ascend_from, MAX_MEMBERS, SPACE, Gives, each_of};
+ghost use Rattle.pg_cert_lines.specs.Prelude.{empty, All, number, parts, two_parts, words_of};
+ghost use Rattle.pg_cert_lines.specs.Prelude.{ascend_from, MAX_MEMBERS, SPACE, Gives, each_of};
 ghost use Rattle.pg_cert_lines.specs.declared.signs.TheConstants.{COLON, HYPHEN};
-ghost use Rattle.pg_cert_lines.specs.NodeLine.{below, point_of, child_of, ascending_of, field_words, word_reply, word_pair, begins_with_e, after_e, before_slash, after_slash, edges_of};
+ghost use Rattle.pg_cert_lines.specs.NodeLine.{below, point_of, child_of, ascending_of};
+ghost use Rattle.pg_cert_lines.specs.NodeLine.{field_words, word_reply, word_pair, begins_with_e};
+ghost use Rattle.pg_cert_lines.specs.NodeLine.{after_e, before_slash, after_slash, edges_of};
 ghost use Rattle.pg_cert_lines.specs.Numerals.{SaysFirst};
-ghost use Rattle.pg_cert_lines.specs.Outline.{IsFirstPoint, formed_each, formed_replies, gathered_from};
+ghost use Rattle.pg_cert_lines.specs.Outline.{IsFirstPoint, formed_each, formed_replies};
+ghost use Rattle.pg_cert_lines.specs.Outline.{gathered_from};
 
 use crate::fault::Fault;
 use crate::form::{each_has_one, is_slash};

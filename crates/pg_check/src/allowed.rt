@@ -1,6 +1,8 @@
 //! Which bodies are allowed, and which nodes stand on the game's points.
 ghost use Rattle.std.specs.Prelude.{◌≡◌, ◌↔◌, IsTrue};
-ghost use Rattle.pg_check.specs.Prelude.{AreBelow, point_count, Game, is_allowed, shows_defence, shows_trees, shows_cuts, pairs_fit, allows_weaker, IsInGame};
+ghost use Rattle.pg_check.specs.Prelude.{AreBelow, point_count, Game, is_allowed, shows_defence};
+ghost use Rattle.pg_check.specs.Prelude.{shows_trees, shows_cuts, pairs_fit, allows_weaker};
+ghost use Rattle.pg_check.specs.Prelude.{IsInGame};
 ghost use Rattle.pg_check.specs.Tester.{ArePointsOf};
 
 use pg_base::{Goal, Kind, PointSet, Side};

@@ -1,6 +1,7 @@
 //! Checking a certificate.
 ghost use Rattle.std.specs.Prelude.{◌≡◌, ℕ, IfOk, slice_get, Some};
-ghost use Rattle.pg_check.specs.Prelude.{with_turn, Forces, Game, IsValid, IsFirstFault, IsWithinLimits, Cert, Claim};
+ghost use Rattle.pg_check.specs.Prelude.{with_turn, Forces, Game, IsValid, IsFirstFault};
+ghost use Rattle.pg_check.specs.Prelude.{IsWithinLimits, Cert, Claim};
 ghost use Rattle.pg_check.specs.Checking.{IsVerdict};
 
 use crate::checking::{Checking, Rejected};

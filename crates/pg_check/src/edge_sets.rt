@@ -1,6 +1,7 @@
 //! The two sets of edges that a node names, against the criteria of trees and of cuts.
 ghost use Rattle.std.specs.Prelude.{◌≡◌, ◌↔◌, IsTrue};
-ghost use Rattle.pg_check.specs.Prelude.{Switching, IsPosition, IsMadeForGame, room_of, TreesHold, CutsHold, with_e_named, AreEdgeSets};
+ghost use Rattle.pg_check.specs.Prelude.{Switching, IsPosition, IsMadeForGame, room_of, TreesHold};
+ghost use Rattle.pg_check.specs.Prelude.{CutsHold, with_e_named, AreEdgeSets};
 
 use pg_base::PointSet;
 use pg_cert::with_e_named;

@@ -1,6 +1,8 @@
 //! Nodes that stand on a criterion.
 ghost use Rattle.std.specs.Prelude.{◌≡◌, ◌≢◌, ◌↔◌, IsTrue, true, ℕ};
-ghost use Rattle.pg_check.specs.Prelude.{Switching, Side, Goal, IsPosition, IsMadeForGame, room_of, HasPairs, PotentialFits, HasPotential, HasTrees, HasCuts, HasThreat, is_allowed};
+ghost use Rattle.pg_check.specs.Prelude.{Switching, Side, Goal, IsPosition, IsMadeForGame, room_of};
+ghost use Rattle.pg_check.specs.Prelude.{HasPairs, PotentialFits, HasPotential, HasTrees, HasCuts};
+ghost use Rattle.pg_check.specs.Prelude.{HasThreat, is_allowed};
 
 use crate::edge_sets::{cuts_hold, trees_hold};
 use crate::threats::threat_holds;

@@ -1,7 +1,9 @@
 //! The positions of nodes that have been checked, in few words.
-ghost use Rattle.std.specs.Prelude.{◌≡◌, ◌++◌, ◌∷◌, ◌*◌, ◌^◌, ◌<◌, ◌≤◌, ℕ, [], ◌↔◌, IsTrue, IfOk, Some, get_or, length, slice_get};
+ghost use Rattle.std.specs.Prelude.{◌≡◌, ◌++◌, ◌∷◌, ◌*◌, ◌^◌, ◌<◌, ◌≤◌, ℕ, [], ◌↔◌, IsTrue, IfOk};
+ghost use Rattle.std.specs.Prelude.{Some, get_or, length, slice_get};
 ghost use Rattle.pg_check.specs.Prelude.{AreBelow, AreWithin, members_below};
-ghost use Rattle.pg_check.specs.Marks.{set_at, no_turn, position_at, kept, HasTurnOf, AreFlat, AreMarksOf, KeepsPoints, IsNoWorseThanKept};
+ghost use Rattle.pg_check.specs.Marks.{set_at, no_turn, position_at, kept, HasTurnOf, AreFlat};
+ghost use Rattle.pg_check.specs.Marks.{AreMarksOf, KeepsPoints, IsNoWorseThanKept};
 
 use pg_base::{Memory, PointSet, Side};
 use pg_game::{Game, Position};

@@ -1,6 +1,8 @@
 //! Nodes that move on to other nodes.
 ghost use Rattle.std.specs.Prelude.{◌≡◌, ◌*◌, ◌<◌, map, true, ◌↔◌, IsTrue};
-ghost use Rattle.pg_check.specs.Prelude.{All, NamesEarlier, IsNodeOf, FollowsMove, FollowMoves, HasTurn, TakesFree, HasWeaker, AreBelow, point_count, free_points, IsPosition, is_free};
+ghost use Rattle.pg_check.specs.Prelude.{All, NamesEarlier, IsNodeOf, FollowsMove, FollowMoves};
+ghost use Rattle.pg_check.specs.Prelude.{HasTurn, TakesFree, HasWeaker, AreBelow, point_count};
+ghost use Rattle.pg_check.specs.Prelude.{free_points, IsPosition, is_free};
 ghost use Rattle.pg_check.specs.Marks.{kept, AreFlat, AreMarksOf};
 ghost use Rattle.pg_check.specs.Present.{bare};
 

@@ -1,9 +1,11 @@
 //! One node against the table of faults.
 ghost use Rattle.std.specs.Prelude.{◌≡◌, ◌<◌, ◌≤◌, ◌+◌, ◌↔◌, IsTrue, IfSome, IfNone, Some, true};
-ghost use Rattle.pg_check.specs.Prelude.{IsMadeForGame, IsPosition, is_over, outcome, with_turn, reaches, IsInGame, IsOwed, EndsRight};
+ghost use Rattle.pg_check.specs.Prelude.{IsMadeForGame, IsPosition, is_over, outcome, with_turn};
+ghost use Rattle.pg_check.specs.Prelude.{reaches, IsInGame, IsOwed, EndsRight};
 ghost use Rattle.pg_check.specs.Tester.{ArePointsOf, IsReadyFor};
 ghost use Rattle.pg_check.specs.Marks.{AreMarksOf};
-ghost use Rattle.pg_check.specs.Present.{HasPosition, PassesSoFar, IsSoundSoFar, IsLeastSoFar, known};
+ghost use Rattle.pg_check.specs.Present.{HasPosition, PassesSoFar, IsSoundSoFar, IsLeastSoFar};
+ghost use Rattle.pg_check.specs.Present.{known};
 
 use crate::allowed::{is_allowed, is_in_game};
 use crate::leaves::{has_cuts, has_pairs, has_potential, has_threat, has_trees};

@@ -1,7 +1,9 @@
 //! Long threat lines, by passes over the lines of the game. An attack and its reply are a round.
-ghost use Rattle.std.specs.Prelude.{◌≡◌, ◌<◌, ◌≤◌, ◌↔◌, ◌/◌, ◌+◌, ◌==◌, ◌||◌, ℕ, true, false, IsTrue, IfSome, IfNone, nat_le, length, get_or};
+ghost use Rattle.std.specs.Prelude.{◌≡◌, ◌<◌, ◌≤◌, ◌↔◌, ◌/◌, ◌+◌, ◌==◌, ◌||◌, ℕ, true, false};
+ghost use Rattle.std.specs.Prelude.{IsTrue, IfSome, IfNone, nat_le, length, get_or};
 ghost use Rattle.pg_check.specs.Prelude.{All, list_all, MakerMaker, has_filled, LeadsToLine};
-ghost use Rattle.pg_check.specs.Rounds.{before_round, attacked, taken_at, AreRounds, AreTimes, AreForced, LacksLate, IsClear, IsAtMove};
+ghost use Rattle.pg_check.specs.Rounds.{before_round, attacked, taken_at, AreRounds, AreTimes};
+ghost use Rattle.pg_check.specs.Rounds.{AreForced, LacksLate, IsClear, IsAtMove};
 
 use crate::threats::{has_filled, is_attack, is_filling, only_lacked, threatens};
 use pg_base::{Kind, Line, MAX_MEMBERS, PointSet, Side};

@@ -1,6 +1,9 @@
 //! Threat lines, attack by attack.
 ghost use Rattle.std.specs.Prelude.{◌≡◌, ◌<◌, ◌↔◌, ℕ, true, false, IsTrue, IfSome, IfNone};
-ghost use Rattle.pg_check.specs.Prelude.{All, list_any, contains, lines_of, has_filled, is_filled, after, IsPosition, points_of, IsMadeForGame, is_on, is_near, threatens, has_threat, IsAttack, Forcing, Filling, LeadsToLine, IsThreatLine};
+ghost use Rattle.pg_check.specs.Prelude.{All, list_any, contains, lines_of, has_filled, is_filled};
+ghost use Rattle.pg_check.specs.Prelude.{after, IsPosition, points_of, IsMadeForGame, is_on};
+ghost use Rattle.pg_check.specs.Prelude.{is_near, threatens, has_threat, IsAttack, Forcing};
+ghost use Rattle.pg_check.specs.Prelude.{Filling, LeadsToLine, IsThreatLine};
 ghost use Rattle.pg_check.specs.Lacked.{filled_but};
 ghost use Rattle.pg_check.specs.Rounds.{IsAtMove};
 

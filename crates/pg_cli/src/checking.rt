@@ -1,6 +1,7 @@
 //! Checking a certificate for a game.
 ghost use Rattle.std.specs.Prelude.{◌≡◌, ◌≢◌, [], map, Err, IfErr, IfOk, Some};
-ghost use Rattle.pg_cli.specs.Prelude.{ReadsOnly, Game, IsFound, Evidence, DONE, Expanded, Check, Speaks, Performs, BothCauses, HaltCauses, IsReadHalt};
+ghost use Rattle.pg_cli.specs.Prelude.{ReadsOnly, Game, IsFound, Evidence, DONE, Expanded, Check};
+ghost use Rattle.pg_cli.specs.Prelude.{Speaks, Performs, BothCauses, HaltCauses, IsReadHalt};
 ghost use Rattle.pg_io.specs.Stop.{Causes};
 ghost use Rattle.pg_cli.specs.Checking.{AcceptsAll, RefusesCheck, head_acceptance};
 ghost use Rattle.pg_cli.specs.Commands.{Quiets};

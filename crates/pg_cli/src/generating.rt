@@ -1,6 +1,8 @@
 //! Making a game from numbers.
 ghost use Rattle.std.specs.Prelude.{◌≡◌, ◌≢◌, ◌≤◌, [], ◌∷◌, false, map, IfErr, IfOk};
-ghost use Rattle.pg_cli.specs.Prelude.{Grows, Said, node_count, MAX_NODES, Switching, budget, IsLeft, message_text, DONE, text, Gen, Does, BothCauses, IsWriteHalt, MuteAtMemory, Delivers, StoresAt};
+ghost use Rattle.pg_cli.specs.Prelude.{Grows, Said, node_count, MAX_NODES, Switching, budget};
+ghost use Rattle.pg_cli.specs.Prelude.{IsLeft, message_text, DONE, text, Gen, Does, BothCauses};
+ghost use Rattle.pg_cli.specs.Prelude.{IsWriteHalt, MuteAtMemory, Delivers, StoresAt};
 ghost use Rattle.pg_cli.specs.Commands.{Gives, LeavesFiles, LeavesWork, Quiets, built};
 ghost use Rattle.pg_cli.specs.Generating.{IsMadeOf, game_file, size_text, size_texts};
 ghost use Rattle.pg_cli.specs.Run.{Carries};

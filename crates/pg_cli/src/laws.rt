@@ -1,6 +1,7 @@
 //! What the claims that are said tell of the game.
 ghost use Rattle.std.specs.Prelude.{◌≡◌, ℕ, List, Option, Some};
-ghost use Rattle.pg_cli.specs.Prelude.{Cert, DifferInPosition, Game, Position, Holding, IsShown, certificate_of, Solution, Command, Done, End, Expanded};
+ghost use Rattle.pg_cli.specs.Prelude.{Cert, DifferInPosition, Game, Position, Holding, IsShown};
+ghost use Rattle.pg_cli.specs.Prelude.{certificate_of, Solution, Command, Done, End, Expanded};
 ghost use Rattle.pg_cli.specs.Commands.{game_read};
 ghost use Rattle.pg_cli.specs.Forced.{AreForced};
 ghost use Rattle.pg_cli.specs.Run.{Allows};

@@ -1,6 +1,8 @@
 //! Playing a side of a game by a certificate.
 ghost use Rattle.std.specs.Prelude.{IfErr, IfOk, Some};
-ghost use Rattle.pg_cli.specs.Prelude.{ReadsOnly, IsWithinItsLimits, StandsFor, Evidence, IsValid, Expanded, Play, Performs, BothCauses, HaltCauses, IsPlayEnd, IsPlayHalt};
+ghost use Rattle.pg_cli.specs.Prelude.{ReadsOnly, IsWithinItsLimits, StandsFor, Evidence, IsValid};
+ghost use Rattle.pg_cli.specs.Prelude.{Expanded, Play, Performs, BothCauses, HaltCauses, IsPlayEnd};
+ghost use Rattle.pg_cli.specs.Prelude.{IsPlayHalt};
 ghost use Rattle.pg_cli.specs.Commands.{Quiets};
 ghost use Rattle.pg_cli.specs.Playing.{PlaysOn, RefusesPlay};
 ghost use Rattle.pg_cli.specs.Reading.{AreLacking, read_of};

@@ -1,6 +1,7 @@
 //! Reporting on a certificate for a game.
 ghost use Rattle.std.specs.Prelude.{◌≢◌, [], string_bytes, Err, IfErr, IfOk, Some};
-ghost use Rattle.pg_cli.specs.Prelude.{ReadsOnly, IsFound, Evidence, Expanded, Report, Performs, BothCauses, HaltCauses, IsReadHalt};
+ghost use Rattle.pg_cli.specs.Prelude.{ReadsOnly, IsFound, Evidence, Expanded, Report, Performs};
+ghost use Rattle.pg_cli.specs.Prelude.{BothCauses, HaltCauses, IsReadHalt};
 ghost use Rattle.pg_cli.specs.Commands.{Quiets};
 ghost use Rattle.pg_cli.specs.Reading.{AreLacking, read_of};
 ghost use Rattle.pg_cli.specs.Reporting.{Accounts, IsReportEnd, RefusesReport, Reports};

@@ -1,7 +1,8 @@
 //! The top call.
 ghost use Rattle.std.specs.Prelude.{◌≡◌, [], map, string_bytes, None};
 ghost use Rattle.pg_cli.specs.Prelude.{Contains, BothCauses, HasCause};
-ghost use Rattle.pg_cli.specs.Commands.{Gives, IsLacking, LeavesFiles, LeavesWork, Quiets, SaysNoMeaning, Silences, SpeaksInTime, asked, statuses_of};
+ghost use Rattle.pg_cli.specs.Commands.{Gives, IsLacking, LeavesFiles, LeavesWork, Quiets};
+ghost use Rattle.pg_cli.specs.Commands.{SaysNoMeaning, Silences, SpeaksInTime, asked, statuses_of};
 ghost use Rattle.pg_cli.specs.Forced.{AnnouncesForced};
 ghost use Rattle.pg_cli.specs.Run.{Carries, Ends, Ran};
 

@@ -1,9 +1,13 @@
 //! Solving a game, and storing what shows it.
 ghost use Rattle.std.specs.Prelude.{◌≡◌, ◌≢◌, ◌≤◌, [], ◌∷◌, length, IfErr, IfOk, IfSome, Some};
-ghost use Rattle.pg_cli.specs.Prelude.{IsWithinLimits, printed_certificate, Switching, MAX_POSITIONS, budget, IsLeft, MIN_POSITIONS, message_text, DONE, UNKNOWN, Solve, Does, BothCauses, IsWriteHalt, MuteAtMemory, IsGameLacking, Delivers, StoresAt, texts_of};
+ghost use Rattle.pg_cli.specs.Prelude.{IsWithinLimits, printed_certificate, Switching};
+ghost use Rattle.pg_cli.specs.Prelude.{MAX_POSITIONS, budget, IsLeft, MIN_POSITIONS, message_text};
+ghost use Rattle.pg_cli.specs.Prelude.{DONE, UNKNOWN, Solve, Does, BothCauses, IsWriteHalt};
+ghost use Rattle.pg_cli.specs.Prelude.{MuteAtMemory, IsGameLacking, Delivers, StoresAt, texts_of};
 ghost use Rattle.pg_cli.specs.Commands.{Gives, LeavesWork, Quiets};
 ghost use Rattle.pg_cli.specs.Run.{Carries};
-ghost use Rattle.pg_cli.specs.Solving.{IsFound, IsSolveEnd, SolvesGame, class_text, positions_for, result_alone};
+ghost use Rattle.pg_cli.specs.Solving.{IsFound, IsSolveEnd, SolvesGame, class_text, positions_for};
+ghost use Rattle.pg_cli.specs.Solving.{result_alone};
 
 use crate::filing::print_solution;
 use pg_base::Memory;

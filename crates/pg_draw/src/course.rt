@@ -2,7 +2,8 @@
 ghost use Rattle.std.specs.Prelude.{◌≡◌, ◌+◌, ◌≤◌, length};
 ghost use Rattle.pg_draw.specs.Prelude.{count_by, MAX_EDGES};
 ghost use Rattle.pg_draw.specs.Places.{IsPlan, IsWithin};
-ghost use Rattle.pg_draw.specs.Courses.{beside, bend_of, course_of, have_same_ends, middle_of, midway};
+ghost use Rattle.pg_draw.specs.Courses.{beside, bend_of, course_of, have_same_ends, middle_of};
+ghost use Rattle.pg_draw.specs.Courses.{midway};
 
 use crate::measures::{BEND, LOOP, MAX_END_REACH, MAX_MIDDLE_REACH};
 use crate::vertices::Plan;

@@ -2,7 +2,10 @@
 ghost use Rattle.std.specs.Prelude.{◌≡◌, ◌≤◌, ◌++◌, OnOk, length};
 ghost use Rattle.pg_draw.specs.Prelude.{flat_map, IsBoard, MAX_EDGES};
 ghost use Rattle.pg_draw.specs.Places.{IsPlan, IsWithin};
-ghost use Rattle.pg_draw.specs.Shapes.{badge_shapes, extra_shapes, fault_shapes, item_shapes, line_shapes, member_shapes, pair_shapes, part_shapes, place_of, reached_shapes, further_edge_shapes, weight_shapes};
+ghost use Rattle.pg_draw.specs.Shapes.{badge_shapes, extra_shapes, fault_shapes, item_shapes};
+ghost use Rattle.pg_draw.specs.Shapes.{line_shapes, member_shapes, pair_shapes, part_shapes};
+ghost use Rattle.pg_draw.specs.Shapes.{place_of, reached_shapes, further_edge_shapes};
+ghost use Rattle.pg_draw.specs.Shapes.{weight_shapes};
 
 use crate::boards::{lower, place_of, upper_right};
 use crate::course::{Course, bend_of, middle_of, parallels};

@@ -4,7 +4,8 @@ ghost use Rattle.pg_draw.specs.Prelude.{IsBoard, points_on, vertices_on, Item, S
 ghost use Rattle.pg_draw.specs.Laws.{IsDrawnBetween, IsInside, vertex_place};
 ghost use Rattle.pg_draw.specs.Pictures.{picture_of};
 ghost use Rattle.pg_draw.specs.Shapes.{courses_of, place_of};
-ghost use Rattle.pg_draw.specs.Places.{place_on_bridge, place_on_circle, place_on_grid, place_on_ring};
+ghost use Rattle.pg_draw.specs.Places.{place_on_bridge, place_on_circle, place_on_grid};
+ghost use Rattle.pg_draw.specs.Places.{place_on_ring};
 
 /// Each item has its shapes once, after those of the items before it.
 pub fn items_are_drawn_in_order()

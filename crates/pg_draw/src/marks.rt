@@ -1,7 +1,8 @@
 //! The shapes of points.
 ghost use Rattle.std.specs.Prelude.{◌≡◌, ◌++◌, OnOk};
 ghost use Rattle.pg_draw.specs.Places.{IsWithin};
-ghost use Rattle.pg_draw.specs.Shapes.{cell_shapes, course_shape, disc_shapes, edge_shapes, mark_shapes, point_shapes};
+ghost use Rattle.pg_draw.specs.Shapes.{cell_shapes, course_shape, disc_shapes, edge_shapes};
+ghost use Rattle.pg_draw.specs.Shapes.{mark_shapes, point_shapes};
 
 use crate::boards::{lower, place_of, upper_left};
 use crate::course::Course;

@@ -2,7 +2,8 @@
 ghost use Rattle.std.specs.Prelude.{◌≡◌, ◌≤◌, ◌<◌};
 ghost use Rattle.pg_draw.specs.Prelude.{IsBoard, MAX_POINTS, MAX_VERTICES, MAX_BRIDGE_ROWS};
 ghost use Rattle.pg_draw.specs.Places.{IsPlan, IsWithin};
-ghost use Rattle.pg_draw.specs.Pictures.{bridge_reach, circle_reach, far_corner, plan_reach, reach_of, row_reach, text_width, widest};
+ghost use Rattle.pg_draw.specs.Pictures.{bridge_reach, circle_reach, far_corner, plan_reach};
+ghost use Rattle.pg_draw.specs.Pictures.{reach_of, row_reach, text_width, widest};
 
 use crate::bridge::columns_of;
 use crate::circle::radius_of;

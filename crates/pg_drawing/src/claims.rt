@@ -2,7 +2,8 @@
 ghost use Rattle.std.specs.Prelude.{◌≡◌, IfNone, IfOk, IfSome, None, slice_get, string_bytes};
 ghost use Rattle.pg_family_files.specs.SpanCertPrint.{IsWithinRanges};
 ghost use Rattle.pg_span.specs.Valid.{IsFirstFlaw};
-ghost use Rattle.pg_drawing.specs.Due.{DrawsSpanClaim, DrawsSpanGame, IsFlawDue, IsSpanCertDue, IsSpanNodeDue};
+ghost use Rattle.pg_drawing.specs.Due.{DrawsSpanClaim, DrawsSpanGame, IsFlawDue, IsSpanCertDue};
+ghost use Rattle.pg_drawing.specs.Due.{IsSpanNodeDue};
 ghost use Rattle.pg_drawing.specs.Orders.{chosen_claim};
 
 use crate::name::{NodeName, chosen_claim};

@@ -1,8 +1,10 @@
 //! Reading games of the families that are drawn, and certificates.
 ghost use Rattle.std.specs.Prelude.{◌≡◌, Some, IfErr, IfOk};
-ghost use Rattle.pg_drawing.specs.Prelude.{IsAbsent, IsWithinLimits, ReadsOnly, HaltCauses, IsGameHalt, IsReadHalt, Opens, span_held};
+ghost use Rattle.pg_drawing.specs.Prelude.{IsAbsent, IsWithinLimits, ReadsOnly, HaltCauses};
+ghost use Rattle.pg_drawing.specs.Prelude.{IsGameHalt, IsReadHalt, Opens, span_held};
 ghost use Rattle.pg_drawing.specs.Incoming.{OpensAlike};
-ghost use Rattle.pg_drawing.specs.Boards.{IsBoardRead, as_connectivity, board_entry, board_held, is_other_kind};
+ghost use Rattle.pg_drawing.specs.Boards.{IsBoardRead, as_connectivity, board_entry, board_held};
+ghost use Rattle.pg_drawing.specs.Boards.{is_other_kind};
 
 use crate::board::Board;
 use crate::incoming::Incoming;

@@ -2,7 +2,8 @@
 ghost use Rattle.std.specs.Prelude.{◌≡◌, IfNone, IfOk, IfSome, string_bytes};
 ghost use Rattle.pg_drawing.specs.Prelude.{IsWithinLimits, IsFirstFault, LacksNode};
 ghost use Rattle.pg_scene.specs.Limits.{IsScene};
-ghost use Rattle.pg_drawing.specs.Due.{DrawsGame, DrawsNode, IsCertDue, IsFaultDue, IsNodeDue, SaysNoNode, scene_text};
+ghost use Rattle.pg_drawing.specs.Due.{DrawsGame, DrawsNode, IsCertDue, IsFaultDue, IsNodeDue};
+ghost use Rattle.pg_drawing.specs.Due.{SaysNoNode, scene_text};
 ghost use Rattle.pg_drawing.specs.Orders.{chosen};
 
 use crate::name::{NodeName, chosen};

@@ -1,6 +1,8 @@
 //! What there is to say to what the words ask for.
 ghost use Rattle.std.specs.Prelude.{◌≡◌, Some, Ok, IfErr, IfOk, map, string_bytes};
-ghost use Rattle.pg_drawing.specs.Prelude.{IsAbsent, ReadsOnly, entry, span_entry, HaltCauses, IsGameHalt, IsReadHalt, IsLackingOne, IsLackingTwo, DONE};
+ghost use Rattle.pg_drawing.specs.Prelude.{IsAbsent, ReadsOnly, entry, span_entry, HaltCauses};
+ghost use Rattle.pg_drawing.specs.Prelude.{IsGameHalt, IsReadHalt, IsLackingOne, IsLackingTwo};
+ghost use Rattle.pg_drawing.specs.Prelude.{DONE};
 ghost use Rattle.pg_drawing.specs.Boards.{board_entry, board_held, both_held, with_certificate};
 ghost use Rattle.pg_drawing.specs.Boards.BoardEntry.{Positional, Connectivity};
 ghost use Rattle.pg_drawing.specs.Due.{Finds, IsDue, IsDueOfBoth, IsDueOfGame};

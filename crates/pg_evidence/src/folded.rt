@@ -3,7 +3,8 @@
 ghost use Rattle.std.specs.Prelude.{◌≡◌, ◌++◌, ◌∷◌, [], List, map, IfOk, IfSome};
 ghost use Rattle.pg_evidence.specs.Prelude.{Claim, IsImageWithinLimits, Part, all_parts};
 ghost use Rattle.pg_check.specs.Checking.{AreNext, StandsFor as IsChecked};
-ghost use Rattle.pg_evidence.specs.Feeding.{AreFed, FindsInFolded, HasFed, HasRoomFor, IsFedClaim, IsOpenFor, listed};
+ghost use Rattle.pg_evidence.specs.Feeding.{AreFed, FindsInFolded, HasFed, HasRoomFor, IsFedClaim};
+ghost use Rattle.pg_evidence.specs.Feeding.{IsOpenFor, listed};
 ghost use Rattle.pg_evidence.specs.Standing.{CameFrom, HasOrigin};
 ghost use Rattle.pg_unfold.specs.Flaws.{IsFaultless, IsSoundClaim};
 ghost use Rattle.pg_unfold.specs.Layouts.{AreLaidOut, IsLaidOut, copy_count, size_in};

@@ -1,6 +1,7 @@
 //! Judging a certificate of either form for a game as its file is read.
 ghost use Rattle.std.specs.Prelude.{◌≡◌, true, false, List, ℕ, IfErr, IfOk, Some};
-ghost use Rattle.pg_evidence.specs.Prelude.{IsAbsent, ReadsOnly, IsReadAs, IsImageWithinLimits, image_certificate, IsReady, HaltCauses, IsReadHalt};
+ghost use Rattle.pg_evidence.specs.Prelude.{IsAbsent, ReadsOnly, IsReadAs, IsImageWithinLimits};
+ghost use Rattle.pg_evidence.specs.Prelude.{image_certificate, IsReady, HaltCauses, IsReadHalt};
 ghost use Rattle.pg_judge.specs.Judged.{StandsFor as HasBeenFed};
 ghost use Rattle.pg_evidence.specs.Evidence.{IsInnerHalt, evidence_held, has_images};
 ghost use Rattle.pg_evidence.specs.Incoming.{HasTaken, game_of};

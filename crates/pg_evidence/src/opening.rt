@@ -1,6 +1,7 @@
 //! Reading a certificate of either form as its file comes.
 ghost use Rattle.std.specs.Prelude.{◌≡◌, true, false, List, ℕ, IfErr, IfOk};
-ghost use Rattle.pg_evidence.specs.Prelude.{IsAbsent, ReadsOnly, HasGathered, IsReadAs, HaltCauses, IsReadHalt};
+ghost use Rattle.pg_evidence.specs.Prelude.{IsAbsent, ReadsOnly, HasGathered, IsReadAs, HaltCauses};
+ghost use Rattle.pg_evidence.specs.Prelude.{IsReadHalt};
 ghost use Rattle.pg_evidence.specs.Arriving.{HasArrived};
 ghost use Rattle.pg_evidence.specs.Evidence.{IsWithinItsLimits, OpensEvidence};
 ghost use Rattle.pg_evidence.specs.Evidence.{evidence, has_images};

@@ -2,7 +2,8 @@
 ghost use Rattle.std.specs.Prelude.{◌≡◌, ℕ, Err, IfErr, IfOk};
 ghost use Rattle.pg_cert.specs.Valid.{IsValid};
 ghost use Rattle.pg_evidence.specs.Evidence.{IsInnerHalt, IsWithinItsLimits};
-ghost use Rattle.pg_evidence.specs.Standing.{CameFromIn, HasFaultIn, HasSource, IsTraced, MakesStanding};
+ghost use Rattle.pg_evidence.specs.Standing.{CameFromIn, HasFaultIn, HasSource, IsTraced};
+ghost use Rattle.pg_evidence.specs.Standing.{MakesStanding};
 
 use crate::evidence::Evidence;
 use pg_cert::Cert;

@@ -3,9 +3,13 @@
 //! An element that isn't in a base links to the members of its circuit. A chain is a row of links
 //! by either base, each from where the one before it ended; the empty row leads from every element
 //! to itself.
-ghost use Rattle.std.specs.Prelude.{◌≡◌, ◌<◌, ◌↔◌, ◌⊎◌, ◌==◌, ℕ, true, false, IfSome, IfNone, length};
-ghost use Rattle.pg_exchange.specs.Prelude.{contains, IsWithin, both, outside, IsReached, circuit, swapped};
-ghost use Rattle.pg_exchange.specs.Chain.{base_of, KeepsMatroid, KeepsBases, LeadsFrom, SomeTree, IsLeast, IsSettled, IsMoved, IsShift, NoShift, IsNearest, up_of, second_of};
+ghost use Rattle.std.specs.Prelude.{◌≡◌, ◌<◌, ◌↔◌, ◌⊎◌, ◌==◌, ℕ, true, false, IfSome, IfNone};
+ghost use Rattle.std.specs.Prelude.{length};
+ghost use Rattle.pg_exchange.specs.Prelude.{contains, IsWithin, both, outside, IsReached, circuit};
+ghost use Rattle.pg_exchange.specs.Prelude.{swapped};
+ghost use Rattle.pg_exchange.specs.Chain.{base_of, KeepsMatroid, KeepsBases, LeadsFrom, SomeTree};
+ghost use Rattle.pg_exchange.specs.Chain.{IsLeast, IsSettled, IsMoved, IsShift, NoShift, IsNearest};
+ghost use Rattle.pg_exchange.specs.Chain.{up_of, second_of};
 
 use crate::ground::Ground;
 use crate::search::{Parent, explore, follow, members, shared, take_next};

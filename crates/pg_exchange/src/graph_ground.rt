@@ -1,6 +1,8 @@
 //! Spanning forests of a graph as bases.
 ghost use Rattle.std.specs.Prelude.{◌≡◌, ◌<◌, ◌≤◌, suc, IfOk, vec_len};
-ghost use Rattle.pg_exchange.specs.Prelude.{contains, AreBelow, ShareNone, either, below, MAX_MEMBERS, IsGraph, edge_count, spans_in, IsMadeFor, AreEdges, AreLabels, IsBase};
+ghost use Rattle.pg_exchange.specs.Prelude.{contains, AreBelow, ShareNone, either, below};
+ghost use Rattle.pg_exchange.specs.Prelude.{MAX_MEMBERS, IsGraph, edge_count, spans_in, IsMadeFor};
+ghost use Rattle.pg_exchange.specs.Prelude.{AreEdges, AreLabels, IsBase};
 ghost use Rattle.pg_exchange.specs.Forest.{graph_matroid, elements_of, IsApart, IsFree, IsGrown};
 
 use crate::ground::Ground;

@@ -4,7 +4,9 @@
 //! long as they fit the base at hand.
 ghost use Rattle.std.specs.Prelude.{◌≡◌, ◌⊎◌, ◌<◌, ◌≤◌, ℕ, Bool, true, false, IfSome, length};
 ghost use Rattle.pg_exchange.specs.Prelude.{contains, IsBelow, AreEdges, IsJoined};
-ghost use Rattle.pg_exchange.specs.Path.{first_label, second_label, HasEnds, IsLabelled, IsReachedBoth, above_of, via_of, depth_of, IsStep, SpreadsOn, IsSwept, IsFound, IsPath, any};
+ghost use Rattle.pg_exchange.specs.Path.{first_label, second_label, HasEnds, IsLabelled};
+ghost use Rattle.pg_exchange.specs.Path.{IsReachedBoth, above_of, via_of, depth_of, IsStep};
+ghost use Rattle.pg_exchange.specs.Path.{SpreadsOn, IsSwept, IsFound, IsPath, any};
 
 use pg_base::{MAX_MEMBERS, PointSet};
 use pg_graph::Graph;

@@ -1,7 +1,8 @@
 //! The commands of all families.
 ghost use Rattle.std.specs.Prelude.{[]};
 ghost use Rattle.pg_families.specs.Prelude.{Grows, BothCauses, QuietsBy, Runs};
-ghost use Rattle.pg_families.specs.Family.{ActsInFamily, GivesInFamily, IsLackingInFamily, LeavesFamilyFiles, QuietAtReadInFamily, RefusesFamily};
+ghost use Rattle.pg_families.specs.Family.{ActsInFamily, GivesInFamily, IsLackingInFamily};
+ghost use Rattle.pg_families.specs.Family.{LeavesFamilyFiles, QuietAtReadInFamily, RefusesFamily};
 
 use crate::span_check::check_span;
 use crate::span_play::play_span;

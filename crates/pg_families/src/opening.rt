@@ -1,7 +1,9 @@
 //! Reading the games and certificates of families.
 ghost use Rattle.std.specs.Prelude.{IfErr, IfOk};
-ghost use Rattle.pg_families.specs.Prelude.{IsAbsent, ReadsOnly, IsWithinRanges, HaltCauses, IsGameHalt, IsReadHalt, IsWithinLimits};
-ghost use Rattle.pg_families.specs.Connectivity.{AreSpansLacking, OpensSpan, OpensSpanBoth, OpensSpanCert};
+ghost use Rattle.pg_families.specs.Prelude.{IsAbsent, ReadsOnly, IsWithinRanges, HaltCauses};
+ghost use Rattle.pg_families.specs.Prelude.{IsGameHalt, IsReadHalt, IsWithinLimits};
+ghost use Rattle.pg_families.specs.Connectivity.{AreSpansLacking, OpensSpan, OpensSpanBoth};
+ghost use Rattle.pg_families.specs.Connectivity.{OpensSpanCert};
 ghost use Rattle.pg_families.specs.Vectors.{AreVectorsLacking, OpensVectors, OpensVectorsBoth};
 
 use pg_cert::Cert;

@@ -1,7 +1,10 @@
 //! Checking a certificate for a connectivity game.
 ghost use Rattle.std.specs.Prelude.{◌≡◌, ◌≢◌, [], map, Err, IfErr, IfOk};
-ghost use Rattle.pg_families.specs.Prelude.{Grows, ReadsOnly, Causes, DONE, IsWithinRanges, Performs, BothCauses, HaltCauses, IsReadHalt, QuietsBy, Runs, Speaks};
-ghost use Rattle.pg_families.specs.Connectivity.{AcceptsSpans, AreSpansLacking, RefusesSpanCheck, span_acceptance, span_both_held, span_pair};
+ghost use Rattle.pg_families.specs.Prelude.{Grows, ReadsOnly, Causes, DONE, IsWithinRanges};
+ghost use Rattle.pg_families.specs.Prelude.{Performs, BothCauses, HaltCauses, IsReadHalt, QuietsBy};
+ghost use Rattle.pg_families.specs.Prelude.{Runs, Speaks};
+ghost use Rattle.pg_families.specs.Connectivity.{AcceptsSpans, AreSpansLacking, RefusesSpanCheck};
+ghost use Rattle.pg_families.specs.Connectivity.{span_acceptance, span_both_held, span_pair};
 
 use crate::opening::open_span_both;
 use pg_base::Goal;

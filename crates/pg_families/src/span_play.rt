@@ -1,7 +1,9 @@
 //! Playing a side of a connectivity game by a certificate.
 ghost use Rattle.std.specs.Prelude.{◌≡◌, [], Ok, IfErr, IfOk, ⊤};
-ghost use Rattle.pg_families.specs.Prelude.{Grows, ReadsOnly, IsWithinRanges, Performs, BothCauses, HaltCauses, IsPlayEnd, IsPlayHalt, QuietsBy, Runs};
-ghost use Rattle.pg_families.specs.Connectivity.{AreSpansLacking, PlaysSpan, RefusesSpanPlay, span_both_held, span_pair};
+ghost use Rattle.pg_families.specs.Prelude.{Grows, ReadsOnly, IsWithinRanges, Performs, BothCauses};
+ghost use Rattle.pg_families.specs.Prelude.{HaltCauses, IsPlayEnd, IsPlayHalt, QuietsBy, Runs};
+ghost use Rattle.pg_families.specs.Connectivity.{AreSpansLacking, PlaysSpan, RefusesSpanPlay};
+ghost use Rattle.pg_families.specs.Connectivity.{span_both_held, span_pair};
 
 use crate::opening::open_span_both;
 use pg_base::{Goal, Kind, Score, Side};

@@ -1,7 +1,10 @@
 //! Solving a connectivity game, and storing what shows its class.
 ghost use Rattle.std.specs.Prelude.{◌≡◌, [], ◌∷◌, Err, IfErr, IfOk};
-ghost use Rattle.pg_families.specs.Prelude.{Grows, message_text, DONE, Does, BothCauses, IsGameHalt, IsWriteHalt, MuteAtMemory, QuietsBy, Runs, StoresAt, Refused};
-ghost use Rattle.pg_families.specs.Connectivity.{IsSpanLacking, SolvesSpan, SolvesSpanGame, span_class_text, span_held};
+ghost use Rattle.pg_families.specs.Prelude.{Grows, message_text, DONE, Does, BothCauses};
+ghost use Rattle.pg_families.specs.Prelude.{IsGameHalt, IsWriteHalt, MuteAtMemory, QuietsBy, Runs};
+ghost use Rattle.pg_families.specs.Prelude.{StoresAt, Refused};
+ghost use Rattle.pg_families.specs.Connectivity.{IsSpanLacking, SolvesSpan, SolvesSpanGame};
+ghost use Rattle.pg_families.specs.Connectivity.{span_class_text, span_held};
 
 use crate::opening::open_span;
 use pg_family_files::print_span_cert;

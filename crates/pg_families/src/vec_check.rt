@@ -1,7 +1,10 @@
 //! Checking a certificate for a game on vectors.
 ghost use Rattle.std.specs.Prelude.{◌≡◌, ◌≢◌, [], map, Err, IfErr, IfOk};
-ghost use Rattle.pg_families.specs.Prelude.{Grows, ReadsOnly, Causes, DONE, IsWithinLimits, Performs, BothCauses, HaltCauses, IsReadHalt, QuietsBy, Runs, Speaks};
-ghost use Rattle.pg_families.specs.Vectors.{AcceptsVectors, AreVectorsLacking, RefusesVectorCheck, vec_acceptance, vectors_both_held, vectors_pair};
+ghost use Rattle.pg_families.specs.Prelude.{Grows, ReadsOnly, Causes, DONE, IsWithinLimits};
+ghost use Rattle.pg_families.specs.Prelude.{Performs, BothCauses, HaltCauses, IsReadHalt, QuietsBy};
+ghost use Rattle.pg_families.specs.Prelude.{Runs, Speaks};
+ghost use Rattle.pg_families.specs.Vectors.{AcceptsVectors, AreVectorsLacking, RefusesVectorCheck};
+ghost use Rattle.pg_families.specs.Vectors.{vec_acceptance, vectors_both_held, vectors_pair};
 
 use crate::opening::open_vectors_both;
 use pg_cert::{Cert, Claim};

@@ -1,7 +1,9 @@
 //! Playing a side of a game on vectors by a certificate.
 ghost use Rattle.std.specs.Prelude.{◌≡◌, [], Ok, IfErr, IfOk, ⊤};
-ghost use Rattle.pg_families.specs.Prelude.{Grows, ReadsOnly, IsWithinLimits, Performs, BothCauses, HaltCauses, IsPlayEnd, IsPlayHalt, QuietsBy, Runs};
-ghost use Rattle.pg_families.specs.Vectors.{AreVectorsLacking, PlaysVectors, RefusesVectorPlay, vectors_both_held, vectors_pair};
+ghost use Rattle.pg_families.specs.Prelude.{Grows, ReadsOnly, IsWithinLimits, Performs, BothCauses};
+ghost use Rattle.pg_families.specs.Prelude.{HaltCauses, IsPlayEnd, IsPlayHalt, QuietsBy, Runs};
+ghost use Rattle.pg_families.specs.Vectors.{AreVectorsLacking, PlaysVectors, RefusesVectorPlay};
+ghost use Rattle.pg_families.specs.Vectors.{vectors_both_held, vectors_pair};
 
 use crate::opening::open_vectors_both;
 use pg_base::{Goal, Kind, Score, Side};

@@ -1,7 +1,10 @@
 //! Solving a game on vectors, and storing what shows its class.
 ghost use Rattle.std.specs.Prelude.{◌≡◌, [], ◌∷◌, Err, IfErr, IfOk};
-ghost use Rattle.pg_families.specs.Prelude.{Grows, message_text, DONE, Does, BothCauses, IsGameHalt, IsWriteHalt, MuteAtMemory, QuietsBy, Runs, StoresAt, Refused};
-ghost use Rattle.pg_families.specs.Vectors.{IsVectorLacking, SolvesVectorGame, SolvesVectors, vec_class_text, vectors_held};
+ghost use Rattle.pg_families.specs.Prelude.{Grows, message_text, DONE, Does, BothCauses};
+ghost use Rattle.pg_families.specs.Prelude.{IsGameHalt, IsWriteHalt, MuteAtMemory, QuietsBy, Runs};
+ghost use Rattle.pg_families.specs.Prelude.{StoresAt, Refused};
+ghost use Rattle.pg_families.specs.Vectors.{IsVectorLacking, SolvesVectorGame, SolvesVectors};
+ghost use Rattle.pg_families.specs.Vectors.{vec_class_text, vectors_held};
 
 use crate::opening::open_vectors;
 use pg_cert::print_cert;

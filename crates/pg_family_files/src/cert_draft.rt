@@ -1,6 +1,7 @@
 //! What the lines of a connectivity game's certificate have said so far.
 ghost use Rattle.std.specs.Prelude.{◌≡◌};
-ghost use Rattle.pg_family_files.specs.SpanCertFile.{after, body_line, claim_line, end_fault, ended, header_line, nothing};
+ghost use Rattle.pg_family_files.specs.SpanCertFile.{after, body_line, claim_line, end_fault};
+ghost use Rattle.pg_family_files.specs.SpanCertFile.{ended, header_line, nothing};
 ghost use Rattle.pg_family_files.specs.SpanCertViews.{IsReadAs, view};
 ghost use Rattle.pg_text.specs.Faults.{Becomes};
 

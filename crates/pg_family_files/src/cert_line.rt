@@ -1,7 +1,9 @@
 //! What the lines of a connectivity game's certificate say.
 ghost use Rattle.std.specs.Prelude.{◌≡◌, ◌≤◌, IfOk, option_map};
-ghost use Rattle.pg_family_files.specs.Prelude.{All, list_any, has_one_slash, is_slash, before_slash, after_slash, Gives, each_of};
-ghost use Rattle.pg_family_files.specs.SpanCertLine.{ascending, body_of, cut_first, first_edge, head_of, number_in, parts_of, trees_of};
+ghost use Rattle.pg_family_files.specs.Prelude.{All, list_any, has_one_slash, is_slash};
+ghost use Rattle.pg_family_files.specs.Prelude.{before_slash, after_slash, Gives, each_of};
+ghost use Rattle.pg_family_files.specs.SpanCertLine.{ascending, body_of, cut_first, first_edge};
+ghost use Rattle.pg_family_files.specs.SpanCertLine.{head_of, number_in, parts_of, trees_of};
 ghost use Rattle.pg_family_files.specs.declared.cert_limits.TheConstants.{MAX_SPAN_NUMBER};
 
 use crate::cert_fault::Fault;

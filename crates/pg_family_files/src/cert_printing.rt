@@ -1,7 +1,10 @@
 //! The text of a connectivity game's certificate.
 ghost use Rattle.std.specs.Prelude.{◌≡◌, ◌<◌, true, ◌++◌, map, OnOk, IfOk, string_bytes};
-ghost use Rattle.pg_family_files.specs.Prelude.{contains, decimal, flat_map, one_where, MAX_MEMBERS, separated, set_words, behind_spaces, spelled};
-ghost use Rattle.pg_family_files.specs.SpanCertPrint.{IsWithinRanges, body_words, claim_lines, first_words, printed_span};
+ghost use Rattle.pg_family_files.specs.Prelude.{contains, decimal, flat_map, one_where};
+ghost use Rattle.pg_family_files.specs.Prelude.{MAX_MEMBERS, separated, set_words, behind_spaces};
+ghost use Rattle.pg_family_files.specs.Prelude.{spelled};
+ghost use Rattle.pg_family_files.specs.SpanCertPrint.{IsWithinRanges, body_words, claim_lines};
+ghost use Rattle.pg_family_files.specs.SpanCertPrint.{first_words, printed_span};
 
 use pg_base::{MAX_MEMBERS, Memory, PointSet};
 use pg_span::{SpanBody, SpanCert, SpanClaim};

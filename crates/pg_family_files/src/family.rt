@@ -1,6 +1,7 @@
 //! The families of games with files of their own, and the keys of these.
 ghost use Rattle.std.specs.Prelude.{◌≡◌};
-ghost use Rattle.pg_family_files.specs.Family.{header_word, key_name, key_of, rank_of, has_key, needed_rank};
+ghost use Rattle.pg_family_files.specs.Family.{header_word, key_name, key_of, rank_of, has_key};
+ghost use Rattle.pg_family_files.specs.Family.{needed_rank};
 
 /// A family of games.
 #[derive(Clone, Copy, Debug, PartialEq, Eq)]

@@ -1,6 +1,7 @@
 //! What holds of the definitions of reading and printing.
 ghost use Rattle.std.specs.Prelude.{◌≡◌, ℕ, ◌<◌, List, Ok, Err};
-ghost use Rattle.pg_family_files.specs.Prelude.{AreVectorParts, AreSpanParts, VecGame, SpanGame, Fault};
+ghost use Rattle.pg_family_files.specs.Prelude.{AreVectorParts, AreSpanParts, VecGame, SpanGame};
+ghost use Rattle.pg_family_files.specs.Prelude.{Fault};
 ghost use Rattle.pg_family_files.specs.declared.family.Family.TheVariants as families;
 ghost use Rattle.pg_family_files.specs.Laws.{IsFirstFault, IsWholeFault};
 ghost use Rattle.pg_family_files.specs.Print.{printed_span, printed_vectors};

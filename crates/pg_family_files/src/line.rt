@@ -1,8 +1,11 @@
 //! Reading a line of a file.
-ghost use Rattle.std.specs.Prelude.{◌≡◌, ◌≤◌, ◌==◌, ◌||◌, not, true, map, [], ◌∷◌, IfNone, Some, IsTrue, nat_lt};
-ghost use Rattle.pg_family_files.specs.Prelude.{list_all, MAX_EDGES, MAX_MEMBERS, numbers, least, Becomes, repeats};
+ghost use Rattle.std.specs.Prelude.{◌≡◌, ◌≤◌, ◌==◌, ◌||◌, not, true, map, [], ◌∷◌, IfNone, Some};
+ghost use Rattle.std.specs.Prelude.{IsTrue, nat_lt};
+ghost use Rattle.pg_family_files.specs.Prelude.{list_all, MAX_EDGES, MAX_MEMBERS, numbers, least};
+ghost use Rattle.pg_family_files.specs.Prelude.{Becomes, repeats};
 ghost use Rattle.pg_files.specs.declared.fault.Fault.TheVariants as faults;
-ghost use Rattle.pg_family_files.specs.FamilyFile.{nothing, points_so_far, is_out_of_place, keyed, significant, after, is_header};
+ghost use Rattle.pg_family_files.specs.FamilyFile.{nothing, points_so_far, is_out_of_place, keyed};
+ghost use Rattle.pg_family_files.specs.FamilyFile.{significant, after, is_header};
 ghost use Rattle.pg_family_files.specs.Views.{view};
 ghost use Rattle.pg_family_files.specs.declared.family.Key.TheVariants as keys;
 

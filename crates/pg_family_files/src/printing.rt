@@ -1,7 +1,8 @@
 //! The texts of games.
 ghost use Rattle.std.specs.Prelude.{◌≡◌, ◌+◌, ◌%◌, ◌++◌, [], ◌∷◌, OnOk, IfOk, string_bytes};
 ghost use Rattle.pg_family_files.specs.Prelude.{flat_map, spelled};
-ghost use Rattle.pg_family_files.specs.Print.{header, worded, signs_of, vector_words, printed_span, printed_vectors};
+ghost use Rattle.pg_family_files.specs.Print.{header, worded, signs_of, vector_words, printed_span};
+ghost use Rattle.pg_family_files.specs.Print.{printed_vectors};
 
 use crate::family::{Family, Key};
 use pg_base::Memory;

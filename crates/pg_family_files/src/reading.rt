@@ -1,7 +1,8 @@
 //! A game from its text.
 ghost use Rattle.std.specs.Prelude.{◌≤◌, length, Ok};
 ghost use Rattle.pg_family_files.specs.Prelude.{lines, reading, IsReadAs};
-ghost use Rattle.pg_family_files.specs.FamilyFile.{nothing, after, ended, whole, span_game, vector_game};
+ghost use Rattle.pg_family_files.specs.FamilyFile.{nothing, after, ended, whole, span_game};
+ghost use Rattle.pg_family_files.specs.FamilyFile.{vector_game};
 ghost use Rattle.pg_family_files.specs.Views.{view, whole_view, span_entry, vector_entry};
 
 use crate::draft::Draft;

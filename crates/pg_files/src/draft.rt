@@ -1,6 +1,7 @@
 //! What the lines of a game file have said so far.
 ghost use Rattle.std.specs.Prelude.{◌≡◌, ◌≤◌, ◌*◌, Some, length, sum_by};
-ghost use Rattle.pg_files.specs.Prelude.{Grid, MAX_EDGES, MAX_POINTS, MAX_SUMMED_POINTS, MAX_VERTICES};
+ghost use Rattle.pg_files.specs.Prelude.{Grid, MAX_EDGES, MAX_POINTS, MAX_SUMMED_POINTS};
+ghost use Rattle.pg_files.specs.Prelude.{MAX_VERTICES};
 
 use pg_base::{Grid, Kind, Line, PointSet, Side};
 

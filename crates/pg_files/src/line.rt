@@ -1,10 +1,15 @@
 //! Reading a line of a game file.
-ghost use Rattle.std.specs.Prelude.{◌≡◌, ◌+◌, ◌*◌, ◌<◌, ◌≤◌, ◌==◌, ◌||◌, not, true, map, length, [], ◌∷◌, IfNone, IfSome, Some, IsTrue, false, is_none, nat_lt};
+ghost use Rattle.std.specs.Prelude.{◌≡◌, ◌+◌, ◌*◌, ◌<◌, ◌≤◌, ◌==◌, ◌||◌, not, true, map, length};
+ghost use Rattle.std.specs.Prelude.{[], ◌∷◌, IfNone, IfSome, Some, IsTrue, false, is_none, nat_lt};
 ghost use Rattle.pg_files.specs.Prelude.{empty, list_all};
 ghost use Rattle.pg_files.specs.Sets.{repeats};
 ghost use Rattle.pg_files.specs.declared.key.Key.TheVariants as keys;
-ghost use Rattle.pg_files.specs.Prelude.{MAX_EDGES, MAX_MEMBERS, longest, ones, MAX_LINE_POINTS, MAX_LINES, MAX_POINTS, MAX_SUMMED_POINTS, numbers, least, Becomes};
-ghost use Rattle.pg_files.specs.GameFile.{nothing, points_so_far, is_out_of_place, keyed, numbers_faults, significant, after, is_header, is_printable, begins_comment, grid_of, IsMarks};
+ghost use Rattle.pg_files.specs.Prelude.{MAX_EDGES, MAX_MEMBERS, longest, ones, MAX_LINE_POINTS};
+ghost use Rattle.pg_files.specs.Prelude.{MAX_LINES, MAX_POINTS, MAX_SUMMED_POINTS, numbers, least};
+ghost use Rattle.pg_files.specs.Prelude.{Becomes};
+ghost use Rattle.pg_files.specs.GameFile.{nothing, points_so_far, is_out_of_place, keyed};
+ghost use Rattle.pg_files.specs.GameFile.{numbers_faults, significant, after, is_header};
+ghost use Rattle.pg_files.specs.GameFile.{is_printable, begins_comment, grid_of, IsMarks};
 ghost use Rattle.pg_files.specs.Views.{view};
 
 use crate::draft::Draft;

@@ -1,7 +1,8 @@
 //! The text of a game.
 ghost use Rattle.std.specs.Prelude.{◌≡◌, ◌++◌, OnOk, IfOk, string_bytes};
 ghost use Rattle.pg_files.specs.Prelude.{flat_map, spelled};
-ghost use Rattle.pg_files.specs.Print.{number_words, numbered, worded, marked, size_words, bias_words, edge_words, field_words, last_lines, printed};
+ghost use Rattle.pg_files.specs.Print.{number_words, numbered, worded, marked, size_words};
+ghost use Rattle.pg_files.specs.Print.{bias_words, edge_words, field_words, last_lines, printed};
 ghost use Rattle.pg_files.specs.declared.key.Key.TheVariants as keys;
 ghost use Rattle.pg_game.specs.declared.field.Field.TheVariants as fields;
 ghost use Rattle.pg_files.specs.Views.{entry};

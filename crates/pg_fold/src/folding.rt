@@ -1,9 +1,13 @@
 //! Certificates folded.
-ghost use Rattle.std.specs.Prelude.{◌≡◌, ◌<◌, ◌^◌, ◌+◌, ◌++◌, ◌∷◌, [], List, Some, length, if◌then◌else◌, IfOk, OnOk};
-ghost use Rattle.pg_fold.specs.Prelude.{get, All, AllZip, IsClaim, IsWithinLimits, IsValid, Node, equal_positions, Game, Position, IsImageWithinLimits, Image, Plain};
+ghost use Rattle.std.specs.Prelude.{◌≡◌, ◌<◌, ◌^◌, ◌+◌, ◌++◌, ◌∷◌, [], List, Some, length};
+ghost use Rattle.std.specs.Prelude.{if◌then◌else◌, IfOk, OnOk};
+ghost use Rattle.pg_fold.specs.Prelude.{get, All, AllZip, IsClaim, IsWithinLimits, IsValid, Node};
+ghost use Rattle.pg_fold.specs.Prelude.{equal_positions, Game, Position, IsImageWithinLimits};
+ghost use Rattle.pg_fold.specs.Prelude.{Image, Plain};
 ghost use Rattle.pg_fold.specs.Codes.{IsKnown};
 ghost use Rattle.pg_fold.specs.Folded.{DifferInPosition, IsFolded, IsFoldedClaim};
-ghost use Rattle.pg_fold.specs.Places.{AreAllFolded, AreFoldable, AreFolded, HaveDifferent, IsFoldable};
+ghost use Rattle.pg_fold.specs.Places.{AreAllFolded, AreFoldable, AreFolded, HaveDifferent};
+ghost use Rattle.pg_fold.specs.Places.{IsFoldable};
 ghost use Rattle.pg_fold.specs.Tables.{AreOrdered, AreTables};
 
 use crate::copying::copy_node;

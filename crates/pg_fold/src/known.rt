@@ -1,5 +1,6 @@
 //! The plain nodes so far, by their positions.
-ghost use Rattle.std.specs.Prelude.{◌≡◌, ◌+◌, ◌*◌, ◌%◌, ◌^◌, ◌<◌, None, Some, if◌then◌else◌, IfOk, OnOk};
+ghost use Rattle.std.specs.Prelude.{◌≡◌, ◌+◌, ◌*◌, ◌%◌, ◌^◌, ◌<◌, None, Some, if◌then◌else◌, IfOk};
+ghost use Rattle.std.specs.Prelude.{OnOk};
 ghost use Rattle.pg_fold.specs.Prelude.{get, equal_positions, Position};
 ghost use Rattle.pg_fold.specs.Codes.{IsKnown, code_of, mixed, place_of};
 

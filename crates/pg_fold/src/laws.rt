@@ -1,7 +1,10 @@
 //! Laws of folded certificates. Each function is empty: what it promises is a law of the
 //! definitions alone.
 ghost use Rattle.std.specs.Prelude.{◌≡◌, ℕ, None, Some, slice_get};
-ghost use Rattle.pg_fold.specs.Prelude.{AllZip, IsClaim, IsWithinLimits, position_of, IsValid, IsValidClaim, Cert, Claim, Node, Game, ImageCert, ImageClaim, Plain, board_of, image_on, image_position, GridMap, AreSound, IsUsable, IsUnfoldedCert, Unfolded};
+ghost use Rattle.pg_fold.specs.Prelude.{AllZip, IsClaim, IsWithinLimits, position_of, IsValid};
+ghost use Rattle.pg_fold.specs.Prelude.{IsValidClaim, Cert, Claim, Node, Game, ImageCert};
+ghost use Rattle.pg_fold.specs.Prelude.{ImageClaim, Plain, board_of, image_on, image_position};
+ghost use Rattle.pg_fold.specs.Prelude.{GridMap, AreSound, IsUsable, IsUnfoldedCert, Unfolded};
 ghost use Rattle.pg_fold.specs.Folded.{IsFolded, IsFoldedClaim, IsSameClaim};
 
 /// A folded valid certificate says what it said: no node of it is faulty, and what it stands for is

@@ -1,6 +1,7 @@
 //! The node of which another is the image.
 ghost use Rattle.std.specs.Prelude.{◌≡◌, IfOk};
-ghost use Rattle.pg_fold.specs.Prelude.{get, All, Grid, equal_positions, image_of, reverse_of, image_position};
+ghost use Rattle.pg_fold.specs.Prelude.{get, All, Grid, equal_positions, image_of, reverse_of};
+ghost use Rattle.pg_fold.specs.Prelude.{image_position};
 ghost use Rattle.pg_fold.specs.Codes.{IsKnown};
 ghost use Rattle.pg_fold.specs.Places.{IsEarliest, earlier};
 ghost use Rattle.pg_fold.specs.Tables.{AreOrdered, IsTable, maps_of};

@@ -1,7 +1,8 @@
 //! Maps of a board as tables.
 ghost use Rattle.std.specs.Prelude.{◌≡◌, ◌<◌, ◌≤◌, ◌*◌, IfOk, map};
 ghost use Rattle.pg_fold.specs.Prelude.{from_list, All, MAX_MEMBERS, IsMapOf, board_of};
-ghost use Rattle.pg_fold.specs.Tables.{AreOrdered, AreTables, AreTablesOf, IsTable, come_from, image_before};
+ghost use Rattle.pg_fold.specs.Tables.{AreOrdered, AreTables, AreTablesOf, IsTable, come_from};
+ghost use Rattle.pg_fold.specs.Tables.{image_before};
 
 use crate::marks::Marks;
 use pg_base::{Grid, Memory, PointSet};

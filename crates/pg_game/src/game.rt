@@ -36,7 +36,8 @@ pub struct Game {
 pub struct Misfit;
 
 impl Game {
-    ghost use Rattle.pg_game.specs.Game.{point_count, lines_of, bias_of, start, with_turn, after, free_points, lowest_free, is_full, IsGameOf};
+    ghost use Rattle.pg_game.specs.Game.{point_count, lines_of, bias_of, start, with_turn, after};
+    ghost use Rattle.pg_game.specs.Game.{free_points, lowest_free, is_full, IsGameOf};
 
     /// The game of these parts, where `bias` is how many points Y claims in a turn.
     ///

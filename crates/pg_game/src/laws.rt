@@ -1,15 +1,18 @@
 //! Laws of the rules and of positions that are no worse. Each function is empty: what it promises
 //! is a law of the definitions alone.
-ghost use Rattle.std.specs.Prelude.{◌≡◌, ◌↔◌, ℕ, ◌<◌, ◌≤◌, Bool, true, false, List, map, length, IsTrue, ◌+◌};
+ghost use Rattle.std.specs.Prelude.{◌≡◌, ◌↔◌, ℕ, ◌<◌, ◌≤◌, Bool, true, false, List, map, length};
+ghost use Rattle.std.specs.Prelude.{IsTrue, ◌+◌};
 ghost use Rattle.pg_game.specs.Prelude.{other, Goal, Side, Graph, MakerBreaker, X, Y};
 ghost use Rattle.pg_game.specs.Decided.{attack_wins, greatest_depth, at_least};
 ghost use Rattle.pg_game.specs.Field.{terminals_joined};
-ghost use Rattle.pg_game.specs.Game.{point_count, free_points, after, bias_of, start, with_turn, is_over, outcome, IsPosition};
+ghost use Rattle.pg_game.specs.Game.{point_count, free_points, after, bias_of, start, with_turn};
+ghost use Rattle.pg_game.specs.Game.{is_over, outcome, IsPosition};
 ghost use Rattle.pg_game.specs.Play.{IsLegalPlay, played};
 ghost use Rattle.pg_game.specs.Position.{is_free};
 ghost use Rattle.pg_game.specs.PositionLemmas.{equal_positions};
 ghost use Rattle.pg_game.specs.Strategy.{Keeps};
-ghost use Rattle.pg_game.specs.Threat.{may_attack, has_threat_line, depth_of, IsThreatLine, IsFirstThreatLine};
+ghost use Rattle.pg_game.specs.Threat.{may_attack, has_threat_line, depth_of, IsThreatLine};
+ghost use Rattle.pg_game.specs.Threat.{IsFirstThreatLine};
 ghost use Rattle.pg_game.specs.Value.{value, best, Forces};
 ghost use Rattle.pg_game.specs.Walked.{AreConnected, IsJoiningGame};
 ghost use Rattle.pg_game.specs.declared.field.Field.TheVariants.{Graph as OnGraph};

@@ -1,9 +1,11 @@
 //! The weights of lines and points.
-ghost use Rattle.std.specs.Prelude.{◌≡◌, ◌≢◌, ℕ, ◌+◌, ◌^◌, ◌<◌, ◌≤◌, ◌==◌, ◌&&◌, length, get_or, unwrap_or, if◌then◌else◌};
+ghost use Rattle.std.specs.Prelude.{◌≡◌, ◌≢◌, ℕ, ◌+◌, ◌^◌, ◌<◌, ◌≤◌, ◌==◌, ◌&&◌, length, get_or};
+ghost use Rattle.std.specs.Prelude.{unwrap_or, if◌then◌else◌};
 ghost use Rattle.pg_game.specs.Prelude.{All, find, IsStrictlyIncreasing, Switching};
 ghost use Rattle.pg_game.specs.Position.{is_free};
 ghost use Rattle.pg_game.specs.Game.{free_points};
-ghost use Rattle.pg_game.specs.Potential.{greatest_length, is_on, line_weight, total_weight, full_weight, IsBaseOf};
+ghost use Rattle.pg_game.specs.Potential.{greatest_length, is_on, line_weight, total_weight};
+ghost use Rattle.pg_game.specs.Potential.{full_weight, IsBaseOf};
 ghost use Rattle.pg_game.specs.Weights.{AreWeights};
 
 use crate::bounds::{MAX_LINE_POINTS, MAX_POINTS};

@@ -1,8 +1,10 @@
 //! Lines that are drawn by a seed.
-ghost use Rattle.std.specs.Prelude.{◌≡◌, ◌↔◌, ◌≤◌, ◌<◌, ◌*◌, ◌^◌, ◌&&◌, IfOk, Err, false, length, fold};
+ghost use Rattle.std.specs.Prelude.{◌≡◌, ◌↔◌, ◌≤◌, ◌<◌, ◌*◌, ◌^◌, ◌&&◌, IfOk, Err, false, length};
+ghost use Rattle.std.specs.Prelude.{fold};
 ghost use Rattle.pg_gen.specs.Prelude.{IsPermutation, StandsTwice, IsLineOfRow};
 ghost use Rattle.pg_gen.specs.Rows.{below};
-ghost use Rattle.pg_gen.specs.Scatter.{AreDrawn, IsDrawn, IsScatterGame, has_scatter, mixed, next_state};
+ghost use Rattle.pg_gen.specs.Scatter.{AreDrawn, IsDrawn, IsScatterGame, has_scatter, mixed};
+ghost use Rattle.pg_gen.specs.Scatter.{next_state};
 
 use crate::fault::GenFault;
 use crate::limits::MAX_SEED;

@@ -1,9 +1,11 @@
 //! Laws of games on vectors. Each function is empty: what it promises is a law of the definitions
 //! alone.
 ghost use Rattle.std.specs.Prelude.{◌≡◌, ℕ, Some, slice_get};
-ghost use Rattle.pg_gf2.specs.Prelude.{FinSet, nat_cmp, Win, Side, X, Y, Cert, Claim, ForcesBy, named, Class};
+ghost use Rattle.pg_gf2.specs.Prelude.{FinSet, nat_cmp, Win, Side, X, Y, Cert, Claim, ForcesBy};
+ghost use Rattle.pg_gf2.specs.Prelude.{named, Class};
 ghost use Rattle.pg_gf2.specs.Check.{IsVecValid, IsFirstVecFault};
-ghost use Rattle.pg_gf2.specs.Classes.{vector_rules, at_turn, TreesAt, CutsAt, VectorSetsHold, vector_class};
+ghost use Rattle.pg_gf2.specs.Classes.{vector_rules, at_turn, TreesAt, CutsAt, VectorSetsHold};
+ghost use Rattle.pg_gf2.specs.Classes.{vector_class};
 ghost use Rattle.pg_gf2.specs.declared.flaw.VecFlaw.{VecFlaw};
 ghost use Rattle.pg_gf2.specs.declared.game.VecGame.{VecGame};
 

@@ -2,7 +2,8 @@
 ghost use Rattle.std.specs.Prelude.{◌≡◌, ◌↔◌, length, IfOk, IsTrue};
 ghost use Rattle.pg_gf2.specs.Prelude.{Win, One};
 ghost use Rattle.pg_gf2.specs.Classes.{with_target};
-ghost use Rattle.pg_gf2.specs.Check.{names_sets, with_e_named, AreVectorSets, IsAtMarks, IsOfSide, HasTrees, HasCuts, IsNodeVerdict, IsClaimVerdict};
+ghost use Rattle.pg_gf2.specs.Check.{names_sets, with_e_named, AreVectorSets, IsAtMarks, IsOfSide};
+ghost use Rattle.pg_gf2.specs.Check.{HasTrees, HasCuts, IsNodeVerdict, IsClaimVerdict};
 
 use crate::condition::{are_cuts, are_trees, number_of_e};
 use crate::flaw::VecFlaw;

@@ -1,6 +1,8 @@
 //! Eliminations in room that was made before: none of these takes memory.
-ghost use Rattle.std.specs.Prelude.{◌+◌, ◌≡◌, ◌≢◌, ◌<◌, ◌≤◌, ℕ, false, true, length, not, ◌&&◌, find, Option, None};
-ghost use Rattle.pg_gf2.specs.Prelude.{contains, empty, range_with_len, vec_len, vec_capacity, minus, outside, IsWithin};
+ghost use Rattle.std.specs.Prelude.{◌+◌, ◌≡◌, ◌≢◌, ◌<◌, ◌≤◌, ℕ, false, true, length, not, ◌&&◌};
+ghost use Rattle.std.specs.Prelude.{find, Option, None};
+ghost use Rattle.pg_gf2.specs.Prelude.{contains, empty, range_with_len, vec_len, vec_capacity};
+ghost use Rattle.pg_gf2.specs.Prelude.{minus, outside, IsWithin};
 ghost use Rattle.pg_gf2.specs.declared.game.TheConstants.{MAX_VECTORS};
 ghost use Rattle.pg_gf2.specs.Answers.{lowest_needed};
 ghost use Rattle.pg_gf2.specs.Vectors.{vector_at, vector_spans};

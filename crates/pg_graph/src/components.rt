@@ -1,6 +1,7 @@
 //! Labels for the vertices of a graph, by union and find with path halving (Tarjan and van Leeuwen
 //! 1984): a label is the root of a tree in which each vertex has a parent, and a root is its own.
-ghost use Rattle.std.specs.Prelude.{◌≡◌, ◌≢◌, ℕ, ◌^◌, ◌<◌, ◌≤◌, ◌↔◌, IsTrue, IfOk, length, slice_index};
+ghost use Rattle.std.specs.Prelude.{◌≡◌, ◌≢◌, ℕ, ◌^◌, ◌<◌, ◌≤◌, ◌↔◌, IsTrue, IfOk, length};
+ghost use Rattle.std.specs.Prelude.{slice_index};
 ghost use Rattle.std.specs.FinSet.{contains};
 ghost use Rattle.pg_graph.specs.Graph.{IsGraph, first_end_of, second_end_of};
 ghost use Rattle.pg_graph.specs.Joiner.{AreEdges};

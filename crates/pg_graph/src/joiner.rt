@@ -2,7 +2,8 @@
 ghost use Rattle.std.specs.Prelude.{◌≡◌, ℕ, ◌<◌, ◌↔◌, true, IsTrue, IfOk, IfSome, IfNone};
 ghost use Rattle.std.specs.FinSet.{contains};
 ghost use Rattle.pg_graph.specs.Graph.{IsGraph, IsJoinedIn, JoinsEndsOf, IsBridge};
-ghost use Rattle.pg_graph.specs.Joiner.{IsMadeFor, AreEdges, AreBothEdges, AreVertices, Crosses, Parts, IsLowest};
+ghost use Rattle.pg_graph.specs.Joiner.{IsMadeFor, AreEdges, AreBothEdges, AreVertices, Crosses};
+ghost use Rattle.pg_graph.specs.Joiner.{Parts, IsLowest};
 
 use crate::graph::Graph;
 use crate::joins;

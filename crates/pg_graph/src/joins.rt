@@ -1,8 +1,10 @@
 //! What edges join and part, by labels in an array that the caller lends.
 ghost use Rattle.std.specs.Prelude.{◌≡◌, ℕ, ◌<◌, ◌≤◌, ◌↔◌, true, IsTrue, IfSome, IfNone, length};
 ghost use Rattle.pg_graph.specs.Prelude.{contains, minus};
-ghost use Rattle.pg_graph.specs.Graph.{IsGraph, IsJoinedIn, JoinsEndsOf, IsBridge, edge_count, first_end_of, second_end_of};
-ghost use Rattle.pg_graph.specs.Joiner.{AreEdges, AreBothEdges, AreVertices, Crosses, Parts, IsLowest};
+ghost use Rattle.pg_graph.specs.Graph.{IsGraph, IsJoinedIn, JoinsEndsOf, IsBridge, edge_count};
+ghost use Rattle.pg_graph.specs.Graph.{first_end_of, second_end_of};
+ghost use Rattle.pg_graph.specs.Joiner.{AreEdges, AreBothEdges, AreVertices, Crosses, Parts};
+ghost use Rattle.pg_graph.specs.Joiner.{IsLowest};
 ghost use Rattle.pg_graph.specs.Labels.{HaveOneRoot, IsSplit};
 ghost use Rattle.pg_graph.specs.Roots.{root_of, IsUpward, SameRoots};
 

@@ -1,7 +1,8 @@
 //! What the lines of a certificate have said so far.
 ghost use Rattle.std.specs.Prelude.{◌≡◌, IfOk};
 ghost use Rattle.pg_image.specs.Prelude.{Gives, end_fault, IsReadAs};
-ghost use Rattle.pg_image.specs.ImageFile.{nothing, closed, header_line, with_node, with_part, plain_line, image_added, after, ended};
+ghost use Rattle.pg_image.specs.ImageFile.{nothing, closed, header_line, with_node, with_part};
+ghost use Rattle.pg_image.specs.ImageFile.{plain_line, image_added, after, ended};
 ghost use Rattle.pg_image.specs.Views.{view, line_view};
 
 use crate::cert::{ImageCert, ImageClaim, ImageClaims};

@@ -1,8 +1,11 @@
 //! The text of a certificate with images.
 ghost use Rattle.std.specs.Prelude.{◌≡◌, ◌++◌, ◌∷◌, [], length, OnOk, IfOk, string_bytes};
-ghost use Rattle.pg_image.specs.Prelude.{All, flat_map, LINE_FEED, spaced, separated, set_words, turn_word, count_words};
+ghost use Rattle.pg_image.specs.Prelude.{All, flat_map, LINE_FEED, spaced, separated, set_words};
+ghost use Rattle.pg_image.specs.Prelude.{turn_word, count_words};
 ghost use Rattle.pg_image.specs.Limits.{IsImageNode, IsImageClaim, IsImageWithinLimits};
-ghost use Rattle.pg_image.specs.Print.{position_fields, image_words, image_node_text, image_claim_words, image_claim_text, printed_image_certificate};
+ghost use Rattle.pg_image.specs.Print.{position_fields, image_words, image_node_text};
+ghost use Rattle.pg_image.specs.Print.{image_claim_words, image_claim_text};
+ghost use Rattle.pg_image.specs.Print.{printed_image_certificate};
 
 use crate::cert::{ImageCert, ImageClaim};
 use crate::node::ImageNode;

@@ -2,7 +2,8 @@
 ghost use Rattle.std.specs.Prelude.{◌≡◌, ◌<◌, ◌≤◌, true, false, length, IfOk, OnOk, OnErr, IsTrue};
 ghost use Rattle.std.specs.Prelude.{None};
 ghost use Rattle.pg_io.specs.Causes.{BlamesOpen, BlamesReads, BlamesWrites};
-ghost use Rattle.pg_io.specs.Files.{FilesTold, ReadsOnly, Opens, IsAbsent, Takes, Begins, Adds, Finishes};
+ghost use Rattle.pg_io.specs.Files.{FilesTold, ReadsOnly, Opens, IsAbsent, Takes, Begins, Adds};
+ghost use Rattle.pg_io.specs.Files.{Finishes};
 
 /// A call on files or on a console has failed. The object's numbers of faults tell of which kind it
 /// was.

@@ -1,11 +1,13 @@
 //! Files in memory.
-ghost use Rattle.std.specs.Prelude.{◌≡◌, ◌⊎◌, ◌<◌, ◌≤◌, ◌+◌, ◌^◌, Option, Some, None, true, false, [], length, take, IfOk, IsErr, OnOk, OnErr, IsTrue, is_some};
+ghost use Rattle.std.specs.Prelude.{◌≡◌, ◌⊎◌, ◌<◌, ◌≤◌, ◌+◌, ◌^◌, Option, Some, None, true, false};
+ghost use Rattle.std.specs.Prelude.{[], length, take, IfOk, IsErr, OnOk, OnErr, IsTrue, is_some};
 ghost use Rattle.std.specs.List.{position};
 ghost use Rattle.std.specs.Option.{option_map};
 ghost use Rattle.std.specs.Result.{is_ok};
 ghost use Rattle.pg_io.specs.Causes.{faults, BlamesOpen, BlamesReads, BlamesWrites};
 ghost use Rattle.pg_io.specs.Files.{ReadsOnly, Opens, IsAbsent, Takes, Begins, Adds, Finishes};
-ghost use Rattle.pg_io.specs.Memory.{has_name, held_by, contents, held_in, left_in, making_of, told_by};
+ghost use Rattle.pg_io.specs.Memory.{has_name, held_by, contents, held_in, left_in, making_of};
+ghost use Rattle.pg_io.specs.Memory.{told_by};
 ghost use Rattle.pg_io.specs.Failing.{FailsNext, FailsAsListed, FailsJustAsListed};
 
 use crate::failing::Failing;

@@ -1,7 +1,8 @@
 //! Judging a certificate as its bytes come.
 ghost use Rattle.std.specs.Prelude.{◌≡◌, ◌++◌, [], List, ℕ, length, IfOk, MatchResult};
 ghost use Rattle.pg_cert_files.specs.Pieces.{size_of};
-ghost use Rattle.pg_judge.specs.Judged.{AreFed, HasCome, HaveBeenFed, IsReady, SaysValid, StandsAgainst, StandsFor};
+ghost use Rattle.pg_judge.specs.Judged.{AreFed, HasCome, HaveBeenFed, IsReady, SaysValid};
+ghost use Rattle.pg_judge.specs.Judged.{StandsAgainst, StandsFor};
 
 use crate::claim_head::ClaimHead;
 use crate::fault::JudgeFault;

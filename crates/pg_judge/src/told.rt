@@ -1,6 +1,7 @@
 //! What the parts of a certificate have said.
 ghost use Rattle.std.specs.Prelude.{◌≡◌, ◌++◌, [], ◌∷◌, List, IfOk, IfSome, MatchResult};
-ghost use Rattle.pg_judge.specs.Prelude.{IsWithinLimits, parts_of, IsFirstFault, IsValid, Cert, Part, listed};
+ghost use Rattle.pg_judge.specs.Prelude.{IsWithinLimits, parts_of, IsFirstFault, IsValid, Cert};
+ghost use Rattle.pg_judge.specs.Prelude.{Part, listed};
 ghost use Rattle.pg_judge.specs.Heads.{heads_in, heads_of};
 ghost use Rattle.pg_judge.specs.Judged.{HasTold, IsComplete, IsDue};
 

@@ -1,6 +1,8 @@
 //! The criteria that decide a position without search.
-ghost use Rattle.std.specs.Prelude.{◌≡◌, ◌<◌, ◌≤◌, Some, IfOk, IfSome, true, false, option_map, is_some, None};
-ghost use Rattle.pg_leaf.specs.Prelude.{lines_of, is_over, decided, answer_for, attack_wins, pairs_exist};
+ghost use Rattle.std.specs.Prelude.{◌≡◌, ◌<◌, ◌≤◌, Some, IfOk, IfSome, true, false, option_map};
+ghost use Rattle.std.specs.Prelude.{is_some, None};
+ghost use Rattle.pg_leaf.specs.Prelude.{lines_of, is_over, decided, answer_for, attack_wins};
+ghost use Rattle.pg_leaf.specs.Prelude.{pairs_exist};
 ghost use Rattle.pg_leaf.specs.At.{IsAskedAt, IsAt};
 ghost use Rattle.pg_match.specs.Cache.{Fits};
 ghost use Rattle.pg_threat.specs.Search.{points_of_line};

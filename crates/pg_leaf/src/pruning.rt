@@ -1,5 +1,6 @@
 //! The nodes that are kept, with new numbers of their children.
-ghost use Rattle.std.specs.Prelude.{◌≡◌, ◌<◌, ◌≤◌, ◌^◌, ℕ, Bool, List, Some, IfOk, OnOk, length, slice_get};
+ghost use Rattle.std.specs.Prelude.{◌≡◌, ◌<◌, ◌≤◌, ◌^◌, ℕ, Bool, List, Some, IfOk, OnOk, length};
+ghost use Rattle.std.specs.Prelude.{slice_get};
 ghost use Rattle.pg_leaf.specs.Prelude.{All, NamesEarlier, Node, MAX_CLAIM_NODES};
 ghost use Rattle.pg_leaf.specs.Pruned.{AreMarked, AreRenumbered, IsKept, IsPruned, Renumbers};
 

@@ -1,7 +1,8 @@
 //! The class of an element of a ground, by two bases that share few elements.
 ghost use Rattle.std.specs.Prelude.{◌≡◌, ◌<◌, true, false};
 ghost use Rattle.pg_lehman.specs.Prelude.{contains, both, IsReached, IsSettled, LeadsFrom};
-ghost use Rattle.pg_lehman.specs.Taken.{AreDistant, IsInOne, IsTaken, IsPlaced, ReachesCommon, in_neither, only};
+ghost use Rattle.pg_lehman.specs.Taken.{AreDistant, IsInOne, IsTaken, IsPlaced, ReachesCommon};
+ghost use Rattle.pg_lehman.specs.Taken.{in_neither, only};
 
 use crate::class::Class;
 use pg_base::{MAX_MEMBERS, PointSet};

@@ -1,6 +1,7 @@
 //! Which maps fit a game.
 ghost use Rattle.std.specs.Prelude.{◌≡◌, ◌↔◌, ◌<◌, ◌≤◌, ◌*◌, ℕ, IfOk, IsTrue, Some, length, map};
-ghost use Rattle.pg_maps.specs.Prelude.{All, AllPairs, Contains, range_with_len, IsPermutation, IsSorted, MAX_MEMBERS, lines_of};
+ghost use Rattle.pg_maps.specs.Prelude.{All, AllPairs, Contains, range_with_len, IsPermutation};
+ghost use Rattle.pg_maps.specs.Prelude.{IsSorted, MAX_MEMBERS, lines_of};
 ghost use Rattle.pg_maps.specs.declared.grid_map.GridMap.{GridMap};
 ghost use Rattle.pg_maps.specs.GridMaps.{IsMapOf, image_of, number_of};
 ghost use Rattle.pg_maps.specs.Images.{Fits, HasSymmetry, AreFitting, board_of, image_line};

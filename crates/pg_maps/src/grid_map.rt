@@ -1,5 +1,6 @@
 //! The eight maps of a board of square cells.
-ghost use Rattle.std.specs.Prelude.{◌≡◌, ◌<◌, ◌≤◌, ◌*◌, ◌↔◌, nat_lt, if◌then◌else◌, Some, None, IsTrue};
+ghost use Rattle.std.specs.Prelude.{◌≡◌, ◌<◌, ◌≤◌, ◌*◌, ◌↔◌, nat_lt, if◌then◌else◌, Some, None};
+ghost use Rattle.std.specs.Prelude.{IsTrue};
 ghost use Rattle.pg_base.specs.declared.limits.TheConstants.{MAX_MEMBERS};
 ghost use Rattle.pg_maps.specs.GridMaps.{turned};
 
@@ -22,7 +23,8 @@ pub struct GridMap {
 }
 
 impl GridMap {
-    ghost use Rattle.pg_maps.specs.GridMaps.{numbered, number_of, IsMapOf, image_of, image_row, image_column, followed_by, reverse_of};
+    ghost use Rattle.pg_maps.specs.GridMaps.{numbered, number_of, IsMapOf, image_of, image_row};
+    ghost use Rattle.pg_maps.specs.GridMaps.{image_column, followed_by, reverse_of};
 
     /// The map of a number, and None exactly where the number is above 7. With r and c the row and
     /// the column of a cell of a board of width w and height h, both from 0, map 0 gives (r, c),

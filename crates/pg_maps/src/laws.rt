@@ -2,9 +2,14 @@
 //! a law speaks of an automorphism it holds of each map of a board that fits, by
 //! `fitting_maps_are_automorphisms`.
 ghost use Rattle.std.specs.Prelude.{◌≡◌, ℕ, ◌*◌, ◌<◌, List, map, Some};
-ghost use Rattle.pg_maps.specs.Prelude.{AllPairs, IsPermutation, Goal, Grid, Pair, Side, AvoiderHolds, point_count, free_points, is_over, outcome, after, IsPosition, PairsHold, PotentialHolds, IsThreatLine, value, Forces, Game, Position, IsNoWorse};
-ghost use Rattle.pg_maps.specs.GridMaps.{IsMapOf, numbered, number_of, image_of, followed_by, reverse_of, identity};
-ghost use Rattle.pg_maps.specs.Images.{AreInverse, IsAutomorphism, Fits, IsImage, board_of, image_on, image_pair, image_position};
+ghost use Rattle.pg_maps.specs.Prelude.{AllPairs, IsPermutation, Goal, Grid, Pair, Side};
+ghost use Rattle.pg_maps.specs.Prelude.{AvoiderHolds, point_count, free_points, is_over, outcome};
+ghost use Rattle.pg_maps.specs.Prelude.{after, IsPosition, PairsHold, PotentialHolds, IsThreatLine};
+ghost use Rattle.pg_maps.specs.Prelude.{value, Forces, Game, Position, IsNoWorse};
+ghost use Rattle.pg_maps.specs.GridMaps.{IsMapOf, numbered, number_of, image_of, followed_by};
+ghost use Rattle.pg_maps.specs.GridMaps.{reverse_of, identity};
+ghost use Rattle.pg_maps.specs.Images.{AreInverse, IsAutomorphism, Fits, IsImage, board_of};
+ghost use Rattle.pg_maps.specs.Images.{image_on, image_pair, image_position};
 ghost use Rattle.pg_maps.specs.declared.grid_map.GridMap.{GridMap};
 
 /// The numbers from 0 to 7 name eight different maps, and all maps.

@@ -1,5 +1,6 @@
 //! A cache of recent answers of the matching.
-ghost use Rattle.std.specs.Prelude.{◌≡◌, ◌≤◌, ◌<◌, [], None, Some, IfOk, OnErr, MatchOption, length};
+ghost use Rattle.std.specs.Prelude.{◌≡◌, ◌≤◌, ◌<◌, [], None, Some, IfOk, OnErr, MatchOption};
+ghost use Rattle.std.specs.Prelude.{length};
 ghost use Rattle.std.specs.Map.{lookup};
 ghost use Rattle.pg_match.specs.Private.{CanMatch, IsMatching, HasPointsBelow, told};
 ghost use Rattle.pg_match.specs.Cache.{Fits, IsAfterAsk, Answers, Keeps, same_asked};

@@ -1,10 +1,13 @@
 //! The search for an alternating chain, which gives the next seat a point.
-ghost use Rattle.std.specs.Prelude.{◌≡◌, false, IsTrue, IfSome, ℕ, ◌+◌, ◌*◌, ◌/◌, ◌<◌, ◌≤◌, [], ◌∷◌, ◌++◌, length, map, slice_get, slice_index, IfOk, OnOk, Option, if◌then◌else◌};
+ghost use Rattle.std.specs.Prelude.{◌≡◌, false, IsTrue, IfSome, ℕ, ◌+◌, ◌*◌, ◌/◌, ◌<◌, ◌≤◌, []};
+ghost use Rattle.std.specs.Prelude.{◌∷◌, ◌++◌, length, map, slice_get, slice_index, IfOk, OnOk};
+ghost use Rattle.std.specs.Prelude.{Option, if◌then◌else◌};
 ghost use Rattle.std.specs.List.{All};
 ghost use Rattle.std.specs.FinSet as set;
 ghost use Rattle.pg_match.specs.Private.{line_at, CanMatch, IsShort};
 ghost use Rattle.pg_match.specs.declared.seats.Step.{Step};
-ghost use Rattle.pg_match.specs.Chains.{may_have, place_of, IsSeated, IsTaken, CanShift, Meets, IsSearch, Grows, AreScannedAt, AreScanned};
+ghost use Rattle.pg_match.specs.Chains.{may_have, place_of, IsSeated, IsTaken, CanShift, Meets};
+ghost use Rattle.pg_match.specs.Chains.{IsSearch, Grows, AreScannedAt, AreScanned};
 
 use crate::seats::{Seats, Step};
 use pg_base::{Line, MAX_MEMBERS, Memory, PointSet};

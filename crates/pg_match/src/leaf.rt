@@ -3,7 +3,8 @@ ghost use Rattle.std.specs.Prelude.{◌≡◌, ◌≢◌, ◌<◌, ◌++◌, Lis
 ghost use Rattle.pg_match.specs.Prelude.{All, AvoiderEnforcer, Pair};
 ghost use Rattle.pg_match.specs.Meant.{PairUp};
 ghost use Rattle.std.specs.FinSet as set;
-ghost use Rattle.pg_match.specs.Prelude.{lines_of, free_points, PairsHold, unpaired, pairs_exist, avoider_can_pair, is_pairable};
+ghost use Rattle.pg_match.specs.Prelude.{lines_of, free_points, PairsHold, unpaired, pairs_exist};
+ghost use Rattle.pg_match.specs.Prelude.{avoider_can_pair, is_pairable};
 ghost use Rattle.pg_match.specs.Cache.{Fits, IsAfterLeaf};
 
 use crate::cache::PairCache;

@@ -1,5 +1,6 @@
 //! Pairs of the free points that private pairs leave over.
-ghost use Rattle.std.specs.Prelude.{◌≡◌, ◌<◌, ◌&&◌, not, ◌∷◌, [], ◌++◌, ℕ, List, IfOk, option_to_list};
+ghost use Rattle.std.specs.Prelude.{◌≡◌, ◌<◌, ◌&&◌, not, ◌∷◌, [], ◌++◌, ℕ, List, IfOk};
+ghost use Rattle.std.specs.Prelude.{option_to_list};
 ghost use Rattle.std.specs.List.{All};
 ghost use Rattle.std.specs.FinSet as set;
 ghost use Rattle.pg_match.specs.Prelude.{Pair, is_free, is_paired, unpaired};

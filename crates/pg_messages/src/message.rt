@@ -2,7 +2,9 @@
 ghost use Rattle.std.specs.Prelude.{◌≡◌, ◌+◌, ◌≤◌, length};
 ghost use Rattle.pg_messages.specs.declared.line.TheConstants.{ROOM};
 ghost use Rattle.pg_base.specs.Texts.{count_text};
-ghost use Rattle.pg_messages.specs.Texts.{accepted_text, claim_text, counts_text, lost_text, message_text, move_text, outcome_word, reply_text, result_text};
+ghost use Rattle.pg_messages.specs.Texts.{accepted_text, claim_text, counts_text, lost_text};
+ghost use Rattle.pg_messages.specs.Texts.{message_text, move_text, outcome_word, reply_text};
+ghost use Rattle.pg_messages.specs.Texts.{result_text};
 
 use crate::line::{Line, push_number};
 use crate::refusal::Refusal;

@@ -1,6 +1,7 @@
 //! Why a command isn't carried out.
 ghost use Rattle.std.specs.Prelude.{◌≡◌, ◌≤◌, length};
-ghost use Rattle.pg_messages.specs.Texts.{faulty_claim_text, faulty_node_text, file_fault_text, no_claim_text, refusal_text};
+ghost use Rattle.pg_messages.specs.Texts.{faulty_claim_text, faulty_node_text, file_fault_text};
+ghost use Rattle.pg_messages.specs.Texts.{no_claim_text, refusal_text};
 ghost use Rattle.pg_messages.specs.Statuses.{refusal_status};
 
 use crate::line::{Line, push_number};

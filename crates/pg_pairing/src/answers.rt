@@ -2,7 +2,8 @@
 ghost use Rattle.std.specs.Prelude.{◌≡◌, ℕ, ◌<◌, ◌&&◌, ◌||◌, not, false};
 ghost use Rattle.std.specs.List.{All, Contains, find, list_any};
 ghost use Rattle.std.specs.FinSet as set;
-ghost use Rattle.pg_pairing.specs.Prelude.{free_points, is_full, IsPosition, is_open, has_point, is_loose, partner, free_partner, pairs_answer};
+ghost use Rattle.pg_pairing.specs.Prelude.{free_points, is_full, IsPosition, is_open, has_point};
+ghost use Rattle.pg_pairing.specs.Prelude.{is_loose, partner, free_partner, pairs_answer};
 ghost use Rattle.pg_pairing.specs.Rest.{ArePairsOf, KeepsRest};
 
 use crate::condition::is_outside;

@@ -1,8 +1,11 @@
 //! Whether pairs hold.
-ghost use Rattle.std.specs.Prelude.{◌≡◌, ◌==◌, ℕ, ◌<◌, ◌≤◌, ◌↔◌, ◌&&◌, ◌||◌, not, IsTrue, IsSome, IfSome, nat_lt, if◌then◌else◌, length};
+ghost use Rattle.std.specs.Prelude.{◌≡◌, ◌==◌, ℕ, ◌<◌, ◌≤◌, ◌↔◌, ◌&&◌, ◌||◌, not, IsTrue, IsSome};
+ghost use Rattle.std.specs.Prelude.{IfSome, nat_lt, if◌then◌else◌, length};
 ghost use Rattle.std.specs.List.{filter};
 ghost use Rattle.std.specs.FinSet as set;
-ghost use Rattle.pg_pairing.specs.Prelude.{Win, Draw, AvoiderEnforcer, is_free, free_points, IsPosition, PairsHold, PairsLeaveNone, AreOpenPairs, HoldLines, has_point, is_paired, unpaired_due, Forces};
+ghost use Rattle.pg_pairing.specs.Prelude.{Win, Draw, AvoiderEnforcer, is_free, free_points};
+ghost use Rattle.pg_pairing.specs.Prelude.{IsPosition, PairsHold, PairsLeaveNone, AreOpenPairs};
+ghost use Rattle.pg_pairing.specs.Prelude.{HoldLines, has_point, is_paired, unpaired_due, Forces};
 ghost use Rattle.pg_pairing.specs.Taking.{CanTake};
 
 use crate::partners::{is_safe, partners_of};

@@ -1,6 +1,8 @@
 //! What pairs that hold force, as laws.
 ghost use Rattle.std.specs.Prelude.{◌≡◌, List};
-ghost use Rattle.pg_pairing.specs.Prelude.{Win, Draw, MakerBreaker, MakerMaker, AvoiderEnforcer, Pair, Side, X, Y, Game, Position, IsPosition, PairsHold, Forces};
+ghost use Rattle.pg_pairing.specs.Prelude.{Win, Draw, MakerBreaker, MakerMaker, AvoiderEnforcer};
+ghost use Rattle.pg_pairing.specs.Prelude.{Pair, Side, X, Y, Game, Position, IsPosition, PairsHold};
+ghost use Rattle.pg_pairing.specs.Prelude.{Forces};
 
 /// In Maker-Breaker, pairs that hold for Breaker are a win for Breaker, whoever is to move and
 /// however many points Breaker claims a turn.

@@ -1,7 +1,9 @@
 //! The text of a picture.
 ghost use Rattle.std.specs.Prelude.{◌≡◌, ◌++◌, [], OnOk, IfOk, codes, decimal, string_bytes};
 ghost use Rattle.std.specs.List.{flat_map};
-ghost use Rattle.pg_picture.specs.Svg.{attribute_text, class_name, escaped, escaped_byte, filled, head, numbered, painted, path_of, picture_text, place_text, shape_text};
+ghost use Rattle.pg_picture.specs.Svg.{attribute_text, class_name, escaped, escaped_byte, filled};
+ghost use Rattle.pg_picture.specs.Svg.{head, numbered, painted, path_of, picture_text, place_text};
+ghost use Rattle.pg_picture.specs.Svg.{shape_text};
 ghost use Rattle.pg_picture.specs.declared.shape.Shape.TheVariants as shapes;
 
 use crate::paint::Paint;

@@ -1,6 +1,8 @@
 //! Which positions are decided, criterion by criterion.
 ghost use Rattle.std.specs.Prelude.{◌≡◌};
-ghost use Rattle.pg_plain.specs.Prelude.{defends, answer_for, is_pairable, avoider_can_pair, has_lines, pairs_exist, decided, AreBelow, point_count, IsMadeForGame, breaker_of};
+ghost use Rattle.pg_plain.specs.Prelude.{defends, answer_for, is_pairable, avoider_can_pair};
+ghost use Rattle.pg_plain.specs.Prelude.{has_lines, pairs_exist, decided, AreBelow, point_count};
+ghost use Rattle.pg_plain.specs.Prelude.{IsMadeForGame, breaker_of};
 
 use crate::leaves::{avoider_holds, potential_holds};
 use crate::private_pairs::have_private_pairs;

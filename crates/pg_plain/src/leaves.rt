@@ -1,7 +1,9 @@
 //! The conditions by which a claim is read off a position: the potentials of Breaker and of
 //! Avoider.
 ghost use Rattle.std.specs.Prelude.{◌≡◌, ◌≢◌, ◌+◌, ◌<◌, ◌≤◌, if◌then◌else◌};
-ghost use Rattle.pg_plain.specs.Prelude.{Switching, avoider_ends, avoider_risk, avoider_holds, is_free, is_on, total, weight, limit, greatest_weight, times_counted, potential_holds, IsBaseOf};
+ghost use Rattle.pg_plain.specs.Prelude.{Switching, avoider_ends, avoider_risk, avoider_holds};
+ghost use Rattle.pg_plain.specs.Prelude.{is_free, is_on, total, weight, limit, greatest_weight};
+ghost use Rattle.pg_plain.specs.Prelude.{times_counted, potential_holds, IsBaseOf};
 
 use pg_base::{Line, Side};
 use pg_game::{

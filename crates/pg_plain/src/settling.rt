@@ -1,6 +1,7 @@
 //! Which positions a list of positions settles, by trying every move of its members.
 ghost use Rattle.std.specs.Prelude.{◌≡◌, []};
-ghost use Rattle.pg_plain.specs.Prelude.{AreBelow, point_count, IsMadeForGame, by_moves, is_listed, settled};
+ghost use Rattle.pg_plain.specs.Prelude.{AreBelow, point_count, IsMadeForGame, by_moves, is_listed};
+ghost use Rattle.pg_plain.specs.Prelude.{settled};
 ghost use Rattle.pg_plain.specs.Known.{with_move};
 
 use crate::criteria::decided;

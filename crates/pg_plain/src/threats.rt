@@ -1,6 +1,8 @@
 //! Threat lines, attack by attack.
 ghost use Rattle.std.specs.Prelude.{◌≡◌, ◌≢◌, ◌==◌, ◌||◌, ◌<◌, ◌↔◌, IsTrue};
-ghost use Rattle.pg_plain.specs.Prelude.{All, list_all, list_any, contains, has_filled, all_touched, is_over, is_near, threatens, has_threat, IsAttack, Forcing, Filling, LeadsToLine, IsThreatLine};
+ghost use Rattle.pg_plain.specs.Prelude.{All, list_all, list_any, contains, has_filled};
+ghost use Rattle.pg_plain.specs.Prelude.{all_touched, is_over, is_near, threatens, has_threat};
+ghost use Rattle.pg_plain.specs.Prelude.{IsAttack, Forcing, Filling, LeadsToLine, IsThreatLine};
 ghost use Rattle.pg_plain.specs.Attacks.{IsGoing};
 
 use crate::leaves::is_on;

@@ -1,6 +1,8 @@
 //! The own moves of a player, in the position p that it imagines.
 ghost use Rattle.std.specs.Prelude.{◌≡◌, ◌≢◌, ◌<◌, ℕ, false, Option, drop, slice_get};
-ghost use Rattle.pg_player.specs.Prelude.{Switching, MAX_MEMBERS, X, Y, Claim, Potential, Trees, Cuts, Threat, is_over, after, IsPosition, TreesHold, CutsHold, HasJoiner, IsSwitchingTurn, HeldUntil};
+ghost use Rattle.pg_player.specs.Prelude.{Switching, MAX_MEMBERS, X, Y, Claim, Potential, Trees};
+ghost use Rattle.pg_player.specs.Prelude.{Cuts, Threat, is_over, after, IsPosition, TreesHold};
+ghost use Rattle.pg_player.specs.Prelude.{CutsHold, HasJoiner, IsSwitchingTurn, HeldUntil};
 ghost use Rattle.pg_player.specs.InPlay.{InPlay, KeepsUp};
 ghost use Rattle.pg_player.specs.Stand.{body_at, threat_of, standing_of};
 

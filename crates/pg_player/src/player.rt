@@ -1,7 +1,10 @@
 //! A player of one side by a checked claim.
-ghost use Rattle.std.specs.Prelude.{◌≡◌, ◌-◌, ℕ, List, Some, None, Err, length, true, false, IfOk, IfErr, IfSome, OnOk, if◌then◌else◌};
-ghost use Rattle.pg_player.specs.Prelude.{arrives, start, is_over, outcome, judged_move, IsLegalPlay, played, reaches, Forces};
-ghost use Rattle.pg_player.specs.Player.{Moves, Answers, MakesMove, TakesReply, Waits, chosen_claim};
+ghost use Rattle.std.specs.Prelude.{◌≡◌, ◌-◌, ℕ, List, Some, None, Err, length, true, false, IfOk};
+ghost use Rattle.std.specs.Prelude.{IfErr, IfSome, OnOk, if◌then◌else◌};
+ghost use Rattle.pg_player.specs.Prelude.{arrives, start, is_over, outcome, judged_move};
+ghost use Rattle.pg_player.specs.Prelude.{IsLegalPlay, played, reaches, Forces};
+ghost use Rattle.pg_player.specs.Player.{Moves, Answers, MakesMove, TakesReply, Waits};
+ghost use Rattle.pg_player.specs.Player.{chosen_claim};
 
 use crate::choice::chosen_claim;
 use crate::moves::own_move;

@@ -1,6 +1,8 @@
 //! Where a player stands, and where it goes.
-ghost use Rattle.std.specs.Prelude.{◌≡◌, ◌==◌, ◌<◌, ◌-◌, Some, drop, length, find, option_map, slice_get};
-ghost use Rattle.pg_player.specs.Prelude.{MAX_MEMBERS, settled, arrives, replied_by, Threat, after, Game, Position};
+ghost use Rattle.std.specs.Prelude.{◌≡◌, ◌==◌, ◌<◌, ◌-◌, Some, drop, length, find, option_map};
+ghost use Rattle.std.specs.Prelude.{slice_get};
+ghost use Rattle.pg_player.specs.Prelude.{MAX_MEMBERS, settled, arrives, replied_by, Threat, after};
+ghost use Rattle.pg_player.specs.Prelude.{Game, Position};
 ghost use Rattle.pg_player.specs.Stand.{body_at, body_of, threat_of, standing_of, Settles, LeadsOn};
 
 use pg_cert::{Body, Claim, Reply};

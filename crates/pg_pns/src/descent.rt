@@ -1,5 +1,6 @@
 //! The walk on the board from the root to the position that is expanded next, and back.
-ghost use Rattle.std.specs.Prelude.{◌≡◌, ◌<◌, IfSome, IfNone, None, Some, List, length, get_or, slice_get, []};
+ghost use Rattle.std.specs.Prelude.{◌≡◌, ◌<◌, IfSome, IfNone, None, Some, List, length, get_or};
+ghost use Rattle.std.specs.Prelude.{slice_get, []};
 ghost use Rattle.pg_pns.specs.Prelude.{All, Score, Game, Position};
 ghost use Rattle.pg_pns.specs.Descent.{IsOpenMove, HasOpen, IsAtStart, first_stand};
 ghost use Rattle.pg_pns.specs.Known.{answer_at};

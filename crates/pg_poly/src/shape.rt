@@ -2,7 +2,8 @@
 ghost use Rattle.std.specs.Prelude.{◌≡◌, false, true, ◌↔◌, ◌<◌, ◌≤◌, ◌==◌, IfOk, Err, length};
 ghost use Rattle.std.specs.List.{position};
 ghost use Rattle.pg_poly.specs.Decided.{is_shape};
-ghost use Rattle.pg_poly.specs.Shapes.{IsShape, are_signs, cells_of, has_rows, is_row, ones, width_of};
+ghost use Rattle.pg_poly.specs.Shapes.{IsShape, are_signs, cells_of, has_rows, is_row, ones};
+ghost use Rattle.pg_poly.specs.Shapes.{width_of};
 ghost use Rattle.pg_poly.specs.declared.limits.TheConstants.{MAX_CELLS};
 
 use crate::cell::Cell;

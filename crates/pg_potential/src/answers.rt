@@ -1,6 +1,8 @@
 //! The answer by the potential.
 ghost use Rattle.std.specs.Prelude.{◌≡◌, ◌≢◌, false};
-ghost use Rattle.pg_potential.specs.Prelude.{MakerBreaker, MakerMaker, Switching, Y, Contains, free_points, is_full, after, IsPosition, PotentialHolds, potential_answer};
+ghost use Rattle.pg_potential.specs.Prelude.{MakerBreaker, MakerMaker, Switching, Y, Contains};
+ghost use Rattle.pg_potential.specs.Prelude.{free_points, is_full, after, IsPosition};
+ghost use Rattle.pg_potential.specs.Prelude.{PotentialHolds, potential_answer};
 
 use crate::condition::{greatest_free, weights_for};
 use pg_base::Side;

@@ -1,6 +1,10 @@
 //! Whether the potential holds.
-ghost use Rattle.std.specs.Prelude.{◌≡◌, ◌≢◌, ◌+◌, ◌&&◌, nat_lt, ◌↔◌, ◌<◌, ◌≤◌, ◌^◌, ℕ, IsTrue, length, get_or, map, true, if◌then◌else◌};
-ghost use Rattle.pg_potential.specs.Prelude.{Win, Draw, Switching, is_free, point_count, free_points, IsPosition, total, weight, limit, greatest, greatest_weight, times_counted, PotentialHolds, Forces};
+ghost use Rattle.std.specs.Prelude.{◌≡◌, ◌≢◌, ◌+◌, ◌&&◌, nat_lt, ◌↔◌, ◌<◌, ◌≤◌, ◌^◌, ℕ, IsTrue};
+ghost use Rattle.std.specs.Prelude.{length, get_or, map, true, if◌then◌else◌};
+ghost use Rattle.pg_potential.specs.Prelude.{Win, Draw, Switching, is_free, point_count};
+ghost use Rattle.pg_potential.specs.Prelude.{free_points, IsPosition, total, weight, limit};
+ghost use Rattle.pg_potential.specs.Prelude.{greatest, greatest_weight, times_counted};
+ghost use Rattle.pg_potential.specs.Prelude.{PotentialHolds, Forces};
 
 use pg_base::{Kind, Side};
 use pg_game::{Game, MAX_BIAS, MAX_POINTS, Position, Weights, full_weight, total_weight, weigh};

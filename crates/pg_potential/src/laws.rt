@@ -1,6 +1,8 @@
 //! What the potential forces where it holds, as laws.
 ghost use Rattle.std.specs.Prelude.{◌≡◌, ◌<◌, ℕ, true};
-ghost use Rattle.pg_potential.specs.Prelude.{other, Win, Draw, MakerBreaker, MakerMaker, Side, X, Y, Game, Position, is_free, point_count, after, IsPosition, PotentialHolds, Forces};
+ghost use Rattle.pg_potential.specs.Prelude.{other, Win, Draw, MakerBreaker, MakerMaker, Side, X};
+ghost use Rattle.pg_potential.specs.Prelude.{Y, Game, Position, is_free, point_count, after};
+ghost use Rattle.pg_potential.specs.Prelude.{IsPosition, PotentialHolds, Forces};
 
 /// In Maker-Breaker, a potential that holds for Breaker is a win for Breaker, whoever is to move
 /// and however many points Breaker claims a turn (Erdős and Selfridge 1973; Beck 1982 for several

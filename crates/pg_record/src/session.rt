@@ -1,5 +1,6 @@
 //! Sessions.
-ghost use Rattle.std.specs.Prelude.{◌≡◌, ◌+◌, ◌<◌, ◌++◌, [], ◌∷◌, length, get_or, nat_lt, is_ok, IfOk, if◌then◌else◌};
+ghost use Rattle.std.specs.Prelude.{◌≡◌, ◌+◌, ◌<◌, ◌++◌, [], ◌∷◌, length, get_or, nat_lt, is_ok};
+ghost use Rattle.std.specs.Prelude.{IfOk, if◌then◌else◌};
 ghost use Rattle.pg_record.specs.Prelude.{start, IsPosition, judged_move, IsLegalPlay};
 ghost use Rattle.pg_record.specs.Replay.{replay, IsRecord};
 ghost use Rattle.pg_record.specs.Session.{refusal_of};

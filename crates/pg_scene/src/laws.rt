@@ -1,6 +1,8 @@
 //! Laws of scenes. Each function is empty: what it promises is a law of the definitions alone.
 ghost use Rattle.std.specs.Prelude.{◌≡◌, ◌<◌, ◌≤◌, ℕ, Bool, List, Option, length, map, take};
-ghost use Rattle.pg_scene.specs.Prelude.{FinSet, All, flat_map, range_with_len, nat_cmp, points_below, Pair, position_of, Claim, Node, Reply, point_count, start, Game, SpanClaim, SpanGame};
+ghost use Rattle.pg_scene.specs.Prelude.{FinSet, All, flat_map, range_with_len, nat_cmp};
+ghost use Rattle.pg_scene.specs.Prelude.{points_below, Pair, position_of, Claim, Node, Reply};
+ghost use Rattle.pg_scene.specs.Prelude.{point_count, start, Game, SpanClaim, SpanGame};
 ghost use Rattle.pg_cert.specs.declared.node.Body.TheVariants as bodies;
 ghost use Rattle.pg_scene.specs.Items.{mark_of};
 ghost use Rattle.pg_scene.specs.Limits.{IsScene};

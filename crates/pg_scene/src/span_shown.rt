@@ -1,8 +1,11 @@
 //! What is to be seen of connectivity games and of claims.
-ghost use Rattle.std.specs.Prelude.{◌≡◌, ◌≤◌, ◌++◌, ◌∷◌, [], IfOk, IfSome, IfNone, OnOk, slice_get, Some, None, string_bytes};
+ghost use Rattle.std.specs.Prelude.{◌≡◌, ◌≤◌, ◌++◌, ◌∷◌, [], IfOk, IfSome, IfNone, OnOk, slice_get};
+ghost use Rattle.std.specs.Prelude.{Some, None, string_bytes};
 ghost use Rattle.pg_scene.specs.Prelude.{edge_count, marks_at};
 ghost use Rattle.pg_scene.specs.Items.{fault_items, point_items};
-ghost use Rattle.pg_scene.specs.SpanScenes.{IsSceneOfSpan, IsSceneOfSpanClaim, IsSceneOfSpanGame, span_claim_text, span_fault_text, span_items, span_legend, span_line};
+ghost use Rattle.pg_scene.specs.SpanScenes.{IsSceneOfSpan, IsSceneOfSpanClaim, IsSceneOfSpanGame};
+ghost use Rattle.pg_scene.specs.SpanScenes.{span_claim_text, span_fault_text, span_items};
+ghost use Rattle.pg_scene.specs.SpanScenes.{span_legend, span_line};
 
 use crate::bodies::put_fault;
 use crate::bridge::joining_board;

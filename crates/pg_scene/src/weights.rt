@@ -1,7 +1,9 @@
 //! The weights of free points.
 ghost use Rattle.std.specs.Prelude.{◌≡◌, ◌<◌, ◌≤◌, ◌++◌, ◌/◌, OnOk, length, get_or, map, ℕ};
-ghost use Rattle.pg_scene.specs.Prelude.{decimal, All, MAX_MEMBERS, free_points, lines_of, point_count, is_free, greatest_length, point_weight};
-ghost use Rattle.pg_scene.specs.Items.{base_of, free_on, most_free, own_of, unit_weight, units, weight_items};
+ghost use Rattle.pg_scene.specs.Prelude.{decimal, All, MAX_MEMBERS, free_points, lines_of};
+ghost use Rattle.pg_scene.specs.Prelude.{point_count, is_free, greatest_length, point_weight};
+ghost use Rattle.pg_scene.specs.Items.{base_of, free_on, most_free, own_of, unit_weight, units};
+ghost use Rattle.pg_scene.specs.Items.{weight_items};
 
 use crate::item::Item;
 use crate::text::Text;

@@ -1,7 +1,9 @@
 //! Titles and legends.
 ghost use Rattle.std.specs.Prelude.{◌≡◌, ◌++◌, IfOk, OnOk, codes, string_bytes};
 ghost use Rattle.pg_scene.specs.Prelude.{decimal, Field};
-ghost use Rattle.pg_scene.specs.Words.{body_line, fault_text, game_legend, game_title, kind_line, node_legend, node_title, turn_line, weaker_line, weights_line};
+ghost use Rattle.pg_scene.specs.Words.{body_line, fault_text, game_legend, game_title, kind_line};
+ghost use Rattle.pg_scene.specs.Words.{node_legend, node_title, turn_line, weaker_line};
+ghost use Rattle.pg_scene.specs.Words.{weights_line};
 
 use crate::lines::are_drawn;
 use crate::text::{Text, Texts};

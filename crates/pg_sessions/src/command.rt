@@ -1,8 +1,11 @@
 //! Reviewing the record of a game.
 ghost use Rattle.std.specs.Prelude.{◌≡◌, ◌≤◌, [], Err, ⊤};
-ghost use Rattle.pg_sessions.specs.Prelude.{MAX_POSITIONS, Grows, ReadsOnly, MIN_POSITIONS, BothCauses, IsLackingOne, QuietsBy, Runs, Refused, LeavesSearch};
+ghost use Rattle.pg_sessions.specs.Prelude.{MAX_POSITIONS, Grows, ReadsOnly, MIN_POSITIONS};
+ghost use Rattle.pg_sessions.specs.Prelude.{BothCauses, IsLackingOne, QuietsBy, Runs, Refused};
+ghost use Rattle.pg_sessions.specs.Prelude.{LeavesSearch};
 ghost use Rattle.pg_sessions.specs.Along.{IsAlong, IsOfMoves, IsOfNames, IsReached};
-ghost use Rattle.pg_sessions.specs.Review.{GivesReview, IsReviewLacking, RefusesReview, Reviews, ReviewsRecord, moves_held};
+ghost use Rattle.pg_sessions.specs.Review.{GivesReview, IsReviewLacking, RefusesReview, Reviews};
+ghost use Rattle.pg_sessions.specs.Review.{ReviewsRecord, moves_held};
 
 use crate::opening::open_moves;
 use crate::reviewing::review_moves;

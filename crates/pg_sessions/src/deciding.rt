@@ -1,6 +1,8 @@
 //! Deciding a game at its position.
 ghost use Rattle.std.specs.Prelude.{◌≡◌, ◌≢◌, ◌≤◌, IfOk, IfSome, None, Ok, false};
-ghost use Rattle.pg_sessions.specs.Prelude.{Switching, IsWithinLimits, IsValid, is_switching, start, MAX_POSITIONS, budget, IsLeft, IsLeftOpen, MIN_POSITIONS};
+ghost use Rattle.pg_sessions.specs.Prelude.{Switching, IsWithinLimits, IsValid, is_switching};
+ghost use Rattle.pg_sessions.specs.Prelude.{start, MAX_POSITIONS, budget, IsLeft, IsLeftOpen};
+ghost use Rattle.pg_sessions.specs.Prelude.{MIN_POSITIONS};
 ghost use Rattle.pg_sessions.specs.Known.{IsKnown, IsSolvedBy};
 
 use crate::known::{Known, known_by};

@@ -2,7 +2,8 @@
 ghost use Rattle.std.specs.Prelude.{◌≡◌, ◌≢◌, ◌<◌, ℕ, [], List, Err, length, IfOk};
 ghost use Rattle.pg_sessions.specs.Prelude.{Causes, Game, Event, MAX_EVENTS};
 ghost use Rattle.pg_sessions.specs.Course.{Goes};
-ghost use Rattle.pg_sessions.specs.SessionLog.{IsOpen, Listens, Refuses, Stands, Steps, after_request, reason_of};
+ghost use Rattle.pg_sessions.specs.SessionLog.{IsOpen, Listens, Refuses, Stands, Steps};
+ghost use Rattle.pg_sessions.specs.SessionLog.{after_request, reason_of};
 ghost use Rattle.pg_sessions.specs.Turns.{Turns, closed, turned};
 
 use crate::request::{Request, request_of};

@@ -1,8 +1,10 @@
 //! What the log of a session tells, and what the losses of a play are. Each function is empty: what
 //! it promises is a law of the definitions alone.
 ghost use Rattle.std.specs.Prelude.{◌≡◌, ℕ, Ok, List, count_by, ◌<◌, ◌↔◌, [], ◌∷◌, ◌++◌, length};
-ghost use Rattle.pg_sessions.specs.Prelude.{Game, Entry, printed_record, IsRecord, Event, record_of, AllPairs, Contains, played, Position};
-ghost use Rattle.pg_sessions.specs.SessionLog.{EndsWith, IsLogTo, IsWholeLog, Stage, events_at, is_refusal};
+ghost use Rattle.pg_sessions.specs.Prelude.{Game, Entry, printed_record, IsRecord, Event};
+ghost use Rattle.pg_sessions.specs.Prelude.{record_of, AllPairs, Contains, played, Position};
+ghost use Rattle.pg_sessions.specs.SessionLog.{EndsWith, IsLogTo, IsWholeLog, Stage, events_at};
+ghost use Rattle.pg_sessions.specs.SessionLog.{is_refusal};
 ghost use Rattle.pg_sessions.specs.Losses.{Loss, IsLoss, loss_at, losses};
 
 /// The log alone tells which session it is of, and where it stands.

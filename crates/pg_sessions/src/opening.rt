@@ -1,6 +1,7 @@
 //! The moves that are reviewed, from the name of a record.
 ghost use Rattle.std.specs.Prelude.{◌≡◌, ◌≤◌, IfErr, IfOk, length};
-ghost use Rattle.pg_sessions.specs.Prelude.{start, IsLegalPlay, ReadsOnly, standing, MAX_EVENTS, HaltCauses, IsLackingOne, IsReadAs, Opens, record_of};
+ghost use Rattle.pg_sessions.specs.Prelude.{start, IsLegalPlay, ReadsOnly, standing, MAX_EVENTS};
+ghost use Rattle.pg_sessions.specs.Prelude.{HaltCauses, IsLackingOne, IsReadAs, Opens, record_of};
 ghost use Rattle.pg_sessions.specs.Review.{IsReviewHalt, IsTextHalt, moves_held, moves_told};
 
 use pg_base::Memory;

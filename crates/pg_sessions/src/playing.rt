@@ -1,6 +1,8 @@
 //! A move played in a game whose value is known.
 ghost use Rattle.std.specs.Prelude.{◌≡◌, ◌<◌, ◌≤◌, Ok, true, false};
-ghost use Rattle.pg_sessions.specs.Prelude.{is_switching, after, point_count, start, IsPosition, is_free, MAX_POSITIONS, budget, IsLeftOpen, LeavesSearch, MIN_POSITIONS};
+ghost use Rattle.pg_sessions.specs.Prelude.{is_switching, after, point_count, start, IsPosition};
+ghost use Rattle.pg_sessions.specs.Prelude.{is_free, MAX_POSITIONS, budget, IsLeftOpen};
+ghost use Rattle.pg_sessions.specs.Prelude.{LeavesSearch, MIN_POSITIONS};
 ghost use Rattle.pg_sessions.specs.Known.{HaveNodes, IsKnown, IsKnownThere};
 ghost use Rattle.pg_sessions.specs.Review.{IsGameAt};
 

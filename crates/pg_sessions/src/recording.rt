@@ -1,7 +1,10 @@
 //! Recording a session of a game, and storing its record.
 ghost use Rattle.std.specs.Prelude.{◌≡◌, [], ◌∷◌, Err, IfErr, IfOk, ⊤};
-ghost use Rattle.pg_sessions.specs.Prelude.{recorded_text, DONE, IsGameLacking, game_held, Does, BothCauses, IsWriteHalt, QuietsBy, Runs, Delivers, StoresAt, Refused};
-ghost use Rattle.pg_sessions.specs.Recording.{GivesRecord, GivesSession, Records, RecordsGame, record_file};
+ghost use Rattle.pg_sessions.specs.Prelude.{recorded_text, DONE, IsGameLacking, game_held, Does};
+ghost use Rattle.pg_sessions.specs.Prelude.{BothCauses, IsWriteHalt, QuietsBy, Runs, Delivers};
+ghost use Rattle.pg_sessions.specs.Prelude.{StoresAt, Refused};
+ghost use Rattle.pg_sessions.specs.Recording.{GivesRecord, GivesSession, Records, RecordsGame};
+ghost use Rattle.pg_sessions.specs.Recording.{record_file};
 ghost use Rattle.pg_sessions.specs.SessionLog.{standing_count};
 
 use crate::dialogue::{Close, hear_session};

@@ -1,6 +1,8 @@
 //! Reviewing moves of a game, one after the other.
 ghost use Rattle.std.specs.Prelude.{◌≡◌, ◌≤◌, IfErr, IfOk, length};
-ghost use Rattle.pg_sessions.specs.Prelude.{start, IsLegalPlay, MAX_POSITIONS, Causes, MAX_EVENTS, MIN_POSITIONS, Performs, HaltCauses, IsWriteHalt, LeavesSearch};
+ghost use Rattle.pg_sessions.specs.Prelude.{start, IsLegalPlay, MAX_POSITIONS, Causes, MAX_EVENTS};
+ghost use Rattle.pg_sessions.specs.Prelude.{MIN_POSITIONS, Performs, HaltCauses, IsWriteHalt};
+ghost use Rattle.pg_sessions.specs.Prelude.{LeavesSearch};
 ghost use Rattle.pg_sessions.specs.Along.{IsAlong, IsReached};
 ghost use Rattle.pg_sessions.specs.Review.{IsReviewEnd, ReviewsMoves};
 ghost use Rattle.pg_sessions.specs.Saying.{SaysAtOnce, move_texts};

@@ -1,6 +1,9 @@
 //! Whether trees and parts hold.
-ghost use Rattle.std.specs.Prelude.{◌≡◌, ◌&&◌, ℕ, ◌<◌, ◌≤◌, ◌↔◌, IfSome, IsTrue, Some, length, slice_index, true};
-ghost use Rattle.pg_span.specs.Prelude.{contains, X, edge_count, first_end_of, second_end_of, is_free, MAX_VERTICES, IsFirst, crosses, crossing, image, with_first, AreBelow, count, either};
+ghost use Rattle.std.specs.Prelude.{◌≡◌, ◌&&◌, ℕ, ◌<◌, ◌≤◌, ◌↔◌, IfSome, IsTrue, Some, length};
+ghost use Rattle.std.specs.Prelude.{slice_index, true};
+ghost use Rattle.pg_span.specs.Prelude.{contains, X, edge_count, first_end_of, second_end_of};
+ghost use Rattle.pg_span.specs.Prelude.{is_free, MAX_VERTICES, IsFirst, crosses, crossing, image};
+ghost use Rattle.pg_span.specs.Prelude.{with_first, AreBelow, count, either};
 ghost use Rattle.pg_base.specs.declared.limits.TheConstants.{MAX_EDGES};
 ghost use Rattle.pg_span.specs.Game.{marks_at};
 ghost use Rattle.pg_span.specs.Conditions.{AreFew, AreFree, AreFreePair};

@@ -1,6 +1,7 @@
 //! Whether a connectivity game is over and who has won.
 ghost use Rattle.std.specs.Prelude.{◌≡◌, ◌<◌, true, IfOk};
-ghost use Rattle.pg_span.specs.Prelude.{contains, AreBelow, IsGraph, edge_count, IsMadeFor, ending_by, judged_by};
+ghost use Rattle.pg_span.specs.Prelude.{contains, AreBelow, IsGraph, edge_count, IsMadeFor};
+ghost use Rattle.pg_span.specs.Prelude.{ending_by, judged_by};
 ghost use Rattle.pg_span.specs.Judge.{connects, IsJudgeOf};
 ghost use Rattle.pg_span.specs.Game.{span_rules_of};
 

@@ -1,6 +1,7 @@
 //! A player's own moves by trees and by parts.
 ghost use Rattle.std.specs.Prelude.{◌≡◌, ◌<◌, Option, Some, None};
-ghost use Rattle.pg_span.specs.Prelude.{remove, AreBelow, IsGraph, edge_count, IsMadeFor, answered_edge};
+ghost use Rattle.pg_span.specs.Prelude.{remove, AreBelow, IsGraph, edge_count, IsMadeFor};
+ghost use Rattle.pg_span.specs.Prelude.{answered_edge};
 ghost use Rattle.pg_span.specs.Answers.{span_move};
 ghost use Rattle.pg_span.specs.Plan.{plan_of, AreTreesOf, IsMovable};
 

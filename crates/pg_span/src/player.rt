@@ -1,7 +1,10 @@
 //! A player of one side of a connectivity game by a checked claim.
-ghost use Rattle.std.specs.Prelude.{◌≡◌, ℕ, List, Some, None, Err, true, false, IfOk, IfErr, IfSome, IsTrue, ◌↔◌, option_map};
-ghost use Rattle.pg_span.specs.Prelude.{Win, ending_by, judged_by, reaches, ForcesBy, IsPlayBy, played_by};
-ghost use Rattle.pg_span.specs.Player.{is_span_claim_of, chosen_span_claim, span_start, SpanWaits, MakesSpanMove, MovesInSpan, AnswersInSpan};
+ghost use Rattle.std.specs.Prelude.{◌≡◌, ℕ, List, Some, None, Err, true, false, IfOk, IfErr};
+ghost use Rattle.std.specs.Prelude.{IfSome, IsTrue, ◌↔◌, option_map};
+ghost use Rattle.pg_span.specs.Prelude.{Win, ending_by, judged_by, reaches, ForcesBy, IsPlayBy};
+ghost use Rattle.pg_span.specs.Prelude.{played_by};
+ghost use Rattle.pg_span.specs.Player.{is_span_claim_of, chosen_span_claim, span_start, SpanWaits};
+ghost use Rattle.pg_span.specs.Player.{MakesSpanMove, MovesInSpan, AnswersInSpan};
 ghost use Rattle.pg_span.specs.Playing.{IsDue};
 ghost use Rattle.pg_span.specs.Game.{span_rules_of};
 ghost use Rattle.pg_span.specs.Valid.{IsBodyAt};

@@ -3,7 +3,8 @@ ghost use Rattle.std.specs.Prelude.{◌≡◌, ◌<◌, ◌↔◌, ℕ, length, 
 ghost use Rattle.pg_span.specs.Prelude.{contains, AreBases};
 ghost use Rattle.pg_span.specs.FreeEdges.{free_matroid};
 ghost use Rattle.pg_span.specs.Game.{span_class};
-ghost use Rattle.pg_span.specs.Solved.{AreDueClaims, HavePartsBelow, SolvedHolds, SolvedIsSmall, named};
+ghost use Rattle.pg_span.specs.Solved.{AreDueClaims, HavePartsBelow, SolvedHolds, SolvedIsSmall};
+ghost use Rattle.pg_span.specs.Solved.{named};
 ghost use Rattle.pg_span.specs.Valid.{IsSpanValid};
 
 use crate::bases::settled;

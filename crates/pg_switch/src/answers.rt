@@ -1,6 +1,8 @@
 //! The edge that answers a reply.
 ghost use Rattle.std.specs.Prelude.{◌≡◌, ◌<◌, ◌≤◌};
-ghost use Rattle.pg_switch.specs.Prelude.{contains, remove, IsGraph, edge_count, IsMadeFor, AreEdges, AreBothEdges, short_edge, cut_edge, lowest_free_edge};
+ghost use Rattle.pg_switch.specs.Prelude.{contains, remove, IsGraph, edge_count, IsMadeFor};
+ghost use Rattle.pg_switch.specs.Prelude.{AreEdges, AreBothEdges, short_edge, cut_edge};
+ghost use Rattle.pg_switch.specs.Prelude.{lowest_free_edge};
 ghost use Rattle.pg_base.specs.Points.{AreBelow};
 ghost use Rattle.pg_switch.specs.Replies.{short_reply, cut_reply};
 

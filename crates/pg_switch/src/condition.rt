@@ -1,6 +1,9 @@
 //! Whether trees and cuts hold.
 ghost use Rattle.std.specs.Prelude.{◌≡◌, ℕ, ◌↔◌, ◌⊎◌, not, suc, true, IsTrue};
-ghost use Rattle.pg_switch.specs.Prelude.{contains, insert, below, Switching, IsGraph, edge_count, IsMadeFor, AreEdges, AreBothEdges, point_count, IsPosition, IsMadeForGame, IsFreeEdge, AreTrees, AreCuts, TreesHold, CutsHold};
+ghost use Rattle.pg_switch.specs.Prelude.{contains, insert, below, Switching, IsGraph, edge_count};
+ghost use Rattle.pg_switch.specs.Prelude.{IsMadeFor, AreEdges, AreBothEdges, point_count};
+ghost use Rattle.pg_switch.specs.Prelude.{IsPosition, IsMadeForGame, IsFreeEdge, AreTrees, AreCuts};
+ghost use Rattle.pg_switch.specs.Prelude.{TreesHold, CutsHold};
 ghost use Rattle.pg_base.specs.Points.{AreBelow};
 ghost use Rattle.pg_switch.specs.Parts.{AreFreePair, JoinsOther, BridgesOther};
 

@@ -1,9 +1,11 @@
 //! Laws of trees, cuts and parts. Each function is empty: what it promises is a law of the
 //! definitions alone.
 ghost use Rattle.std.specs.Prelude.{ℕ, ◌<◌, ◌↔◌, Bool, IsTrue, Option};
-ghost use Rattle.pg_switch.specs.Prelude.{FinSet, nat_cmp, Win, X, Y, Game, Position, IsPosition, TreesHold, CutsHold, Forces, IsSpan, ForcesBy};
+ghost use Rattle.pg_switch.specs.Prelude.{FinSet, nat_cmp, Win, X, Y, Game, Position, IsPosition};
+ghost use Rattle.pg_switch.specs.Prelude.{TreesHold, CutsHold, Forces, IsSpan, ForcesBy};
 ghost use Rattle.pg_switch.specs.Claims.{span_rules, IsPlace, AreSpanTrees, AreSpanCuts};
-ghost use Rattle.pg_switch.specs.Span.{connectivity_rules, joins_all, AreAllJoined, AreParts, AreJoiningTrees};
+ghost use Rattle.pg_switch.specs.Span.{connectivity_rules, joins_all, AreAllJoined, AreParts};
+ghost use Rattle.pg_switch.specs.Span.{AreJoiningTrees};
 
 /// Trees that hold are a win for Short, whoever is to move (Lehman, A solution of the Shannon
 /// switching game, 1964).

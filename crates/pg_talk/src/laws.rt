@@ -3,7 +3,8 @@
 ghost use Rattle.std.specs.Prelude.{◌≡◌, ◌+◌, ◌≤◌, ℕ, false, List, length, count_by};
 ghost use Rattle.pg_talk.specs.Prelude.{Side, Entry, IsPlayBy, free_below, played_by, Position};
 ghost use Rattle.pg_talk.specs.Contest.{Contest};
-ghost use Rattle.pg_talk.specs.Dialogue.{Stage, At, Steps, Leads, IsDialogue, EndsWith, IsOwnMove, position_at, is_heard};
+ghost use Rattle.pg_talk.specs.Dialogue.{Stage, At, Steps, Leads, IsDialogue, EndsWith, IsOwnMove};
+ghost use Rattle.pg_talk.specs.Dialogue.{position_at, is_heard};
 ghost use Rattle.pg_talk.specs.declared.dialogue.TheConstants.{MAX_REFUSALS};
 
 /// Where the side that is played is to move, the next entry of a dialogue is a legal move of its

@@ -1,7 +1,9 @@
 //! The free points of lines of which a side lacks few points.
 ghost use Rattle.std.specs.Prelude.{◌≡◌, ◌<◌, ◌≤◌, ◌+◌, ◌||◌, ℕ, List, true, false, length};
-ghost use Rattle.pg_threat.specs.Prelude.{Contains, contains, insert, other, MakerMaker, lines_of, point_count, IsPosition, is_on, line_at};
-ghost use Rattle.pg_threat.specs.Lacking.{is_gained, is_open_on, is_lacking, is_partner, lacks, IsLackedTwice};
+ghost use Rattle.pg_threat.specs.Prelude.{Contains, contains, insert, other, MakerMaker, lines_of};
+ghost use Rattle.pg_threat.specs.Prelude.{point_count, IsPosition, is_on, line_at};
+ghost use Rattle.pg_threat.specs.Lacking.{is_gained, is_open_on, is_lacking, is_partner, lacks};
+ghost use Rattle.pg_threat.specs.Lacking.{IsLackedTwice};
 ghost use Rattle.pg_threat.specs.Lacking.{own_count, IsIdle, IsOutOfReach};
 
 use pg_base::{Kind, MAX_MEMBERS, PointSet, Side};

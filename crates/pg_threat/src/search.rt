@@ -1,9 +1,13 @@
 //! The search for a threat line.
-ghost use Rattle.std.specs.Prelude.{◌≡◌, ◌≤◌, ◌<◌, ◌+◌, ◌↔◌, ℕ, true, false, length, ◌==◌, ◌&&◌, if◌then◌else◌};
-ghost use Rattle.pg_threat.specs.Prelude.{contains, after, is_over, lines_of, IsPosition, may_attack, IsAttack, LeadsToLine, IsAttacking, IsLeastFrom};
+ghost use Rattle.std.specs.Prelude.{◌≡◌, ◌≤◌, ◌<◌, ◌+◌, ◌↔◌, ℕ, true, false, length, ◌==◌, ◌&&◌};
+ghost use Rattle.std.specs.Prelude.{if◌then◌else◌};
+ghost use Rattle.pg_threat.specs.Prelude.{contains, after, is_over, lines_of, IsPosition};
+ghost use Rattle.pg_threat.specs.Prelude.{may_attack, IsAttack, LeadsToLine, IsAttacking};
+ghost use Rattle.pg_threat.specs.Prelude.{IsLeastFrom};
 ghost use Rattle.pg_threat.specs.Forced.{IsAnswer};
 ghost use Rattle.pg_threat.specs.Lacking.{is_lacking, is_partner, IsLackedTwice};
-ghost use Rattle.pg_threat.specs.Search.{Begins, IsAnswering, IsFound, IsTried, Replied, SearchesAt};
+ghost use Rattle.pg_threat.specs.Search.{Begins, IsAnswering, IsFound, IsTried, Replied};
+ghost use Rattle.pg_threat.specs.Search.{SearchesAt};
 
 use crate::lacking::{gains, is_far, is_idle, lacking, partners};
 use crate::line::ThreatLine;

@@ -1,6 +1,7 @@
 //! A map of a game's points by its board, where it has one.
 ghost use Rattle.std.specs.Prelude.{◌≡◌, map, IfOk};
-ghost use Rattle.pg_unfold.specs.Prelude.{ArePoints, Game, board_of, image_on, image_pair, image_set};
+ghost use Rattle.pg_unfold.specs.Prelude.{ArePoints, Game, board_of, image_on, image_pair};
+ghost use Rattle.pg_unfold.specs.Prelude.{image_set};
 ghost use Rattle.pg_unfold.specs.Marks.{IsBoardMap};
 
 use pg_base::{Grid, Memory, Pair, PointSet};

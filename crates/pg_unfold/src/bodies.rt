@@ -1,6 +1,7 @@
 //! Images of nodes, with the places to which the numbers of their children lead.
 ghost use Rattle.std.specs.Prelude.{◌≡◌, ◌<◌, ◌≤◌, ◌*◌, ◌+◌, IfOk, length};
-ghost use Rattle.pg_unfold.specs.Prelude.{All, IsBody, IsNode, position_of, NamesEarlier, number_of, image_on, image_position};
+ghost use Rattle.pg_unfold.specs.Prelude.{All, IsBody, IsNode, position_of, NamesEarlier};
+ghost use Rattle.pg_unfold.specs.Prelude.{number_of, image_on, image_position};
 ghost use Rattle.pg_unfold.specs.Marks.{IsBoardMap, IsPlaceOf};
 ghost use Rattle.pg_unfold.specs.Unfolded.{AreReplyImages, IsBodyImage};
 

@@ -1,7 +1,9 @@
 //! The nodes of an unfolded claim.
-ghost use Rattle.std.specs.Prelude.{◌≡◌, ◌<◌, ◌≤◌, ◌*◌, ◌/◌, IfOk, IfSome, IfNone, length, map, false, slice_get, Some};
+ghost use Rattle.std.specs.Prelude.{◌≡◌, ◌<◌, ◌≤◌, ◌*◌, ◌/◌, IfOk, IfSome, IfNone, length, map};
+ghost use Rattle.std.specs.Prelude.{false, slice_get, Some};
 ghost use Rattle.pg_unfold.specs.Prelude.{All, MAX_CLAIM_NODES, IsImageNode, Plain, IsMarked};
-ghost use Rattle.pg_unfold.specs.Marks.{AreBoardMaps, AreEarlier, AreMet, ArePlaces, copies_of, is_kept};
+ghost use Rattle.pg_unfold.specs.Marks.{AreBoardMaps, AreEarlier, AreMet, ArePlaces, copies_of};
+ghost use Rattle.pg_unfold.specs.Marks.{is_kept};
 ghost use Rattle.pg_unfold.specs.Flaws.{IsSoundClaim};
 ghost use Rattle.pg_unfold.specs.Layouts.{AreCopiedBelow, IsLaidOut, IsNextCopy, copy_count};
 

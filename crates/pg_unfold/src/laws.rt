@@ -1,7 +1,8 @@
 //! Laws of unfolded claims. Each function is empty: what it promises is a law of the definitions
 //! alone.
 ghost use Rattle.std.specs.Prelude.{◌≡◌, ◌-◌, ℕ, List, length, slice_get, Some};
-ghost use Rattle.pg_unfold.specs.Prelude.{position_of, Claim, Node, Game, IsImageClaim, ImageCert, ImageClaim, Plain};
+ghost use Rattle.pg_unfold.specs.Prelude.{position_of, Claim, Node, Game, IsImageClaim, ImageCert};
+ghost use Rattle.pg_unfold.specs.Prelude.{ImageClaim, Plain};
 ghost use Rattle.pg_unfold.specs.Copies.{Copy, IsMet};
 ghost use Rattle.pg_unfold.specs.Flaws.{IsFaultless, IsFirstFault, IsSoundClaim};
 ghost use Rattle.pg_unfold.specs.Unfolded.{HasImage, HasRootAt, IsUnfolded, IsUnfoldedCert};

@@ -2,7 +2,8 @@
 ghost use Rattle.std.specs.Prelude.{◌≡◌, ◌+◌, ◌*◌, ◌<◌, ◌≤◌, List, IfOk, length};
 ghost use Rattle.pg_unfold.specs.Prelude.{IsImageClaim, MAX_CLAIM_NODES, Node};
 ghost use Rattle.pg_unfold.specs.Flaws.{IsSoundClaim};
-ghost use Rattle.pg_unfold.specs.Layouts.{AreCopiedBelow, IsLaidOut, LaysOutWithin, copy_count, origins_in, size_in, with_next};
+ghost use Rattle.pg_unfold.specs.Layouts.{AreCopiedBelow, IsLaidOut, LaysOutWithin, copy_count};
+ghost use Rattle.pg_unfold.specs.Layouts.{origins_in, size_in, with_next};
 ghost use Rattle.pg_unfold.specs.Marks.{AreEarlier};
 
 use crate::board_map::board_of;

@@ -1,7 +1,11 @@
 //! The first node that is faulty.
-ghost use Rattle.std.specs.Prelude.{◌<◌, ◌≤◌, ◌↔◌, IsTrue, IfOk, IfSome, IfNone, MatchResult, length};
-ghost use Rattle.pg_unfold.specs.Prelude.{All, NamesEarlier, IsImageClaim, MAX_CLAIM_NODES, MAX_CLAIMS};
-ghost use Rattle.pg_unfold.specs.Flaws.{HasEarlier, AreUsable, HasUsable, HasPoints, HasMarks, IsSound, IsLeastFlaw, IsSoundClaim, IsFirstIn, AreSound, TellsFlaw};
+ghost use Rattle.std.specs.Prelude.{◌<◌, ◌≤◌, ◌↔◌, IsTrue, IfOk, IfSome, IfNone, MatchResult};
+ghost use Rattle.std.specs.Prelude.{length};
+ghost use Rattle.pg_unfold.specs.Prelude.{All, NamesEarlier, IsImageClaim, MAX_CLAIM_NODES};
+ghost use Rattle.pg_unfold.specs.Prelude.{MAX_CLAIMS};
+ghost use Rattle.pg_unfold.specs.Flaws.{HasEarlier, AreUsable, HasUsable, HasPoints, HasMarks};
+ghost use Rattle.pg_unfold.specs.Flaws.{IsSound, IsLeastFlaw, IsSoundClaim, IsFirstIn, AreSound};
+ghost use Rattle.pg_unfold.specs.Flaws.{TellsFlaw};
 
 use crate::board_map::board_of;
 use crate::flaw::Flaw;

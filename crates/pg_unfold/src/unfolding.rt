@@ -1,6 +1,7 @@
 //! Unfolding a certificate.
 ghost use Rattle.std.specs.Prelude.{◌≡◌, ◌+◌, ◌≤◌, ℕ, IfOk, length};
-ghost use Rattle.pg_unfold.specs.Prelude.{All, IsWithinLimits, MAX_CLAIMS, IsImageClaim, IsImageWithinLimits};
+ghost use Rattle.pg_unfold.specs.Prelude.{All, IsWithinLimits, MAX_CLAIMS, IsImageClaim};
+ghost use Rattle.pg_unfold.specs.Prelude.{IsImageWithinLimits};
 ghost use Rattle.pg_unfold.specs.Flaws.{AreSound, IsFaultless, IsFirstFault, IsSoundClaim};
 ghost use Rattle.pg_unfold.specs.Gathered.{TakesNext, TellsUnfolded, UnfoldsWithin};
 ghost use Rattle.pg_unfold.specs.Unfolded.{IsUnfoldedCert};

@@ -1,6 +1,9 @@
 //! Whether a game on vectors is over and who has won, and what is claimed where a vector is lost.
 ghost use Rattle.std.specs.Prelude.{◌≡◌, ◌<◌, ◌≤◌, ◌+◌, length, IfOk};
-ghost use Rattle.pg_vec_player.specs.Prelude.{contains, remove, either, ending_by, judged_by, kept, left_without, lowest_free, reply_vector, answer_vector, with_target, vector_rules, vector_spans};
+ghost use Rattle.pg_vec_player.specs.Prelude.{contains, remove, either, ending_by, judged_by, kept};
+ghost use Rattle.pg_vec_player.specs.Prelude.{left_without, lowest_free, reply_vector};
+ghost use Rattle.pg_vec_player.specs.Prelude.{answer_vector, with_target, vector_rules};
+ghost use Rattle.pg_vec_player.specs.Prelude.{vector_spans};
 ghost use Rattle.pg_gf2.specs.declared.game.TheConstants.{MAX_VECTORS};
 ghost use Rattle.pg_vec_player.specs.Judge.{IsVecJudgeOf};
 

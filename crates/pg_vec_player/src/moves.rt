@@ -1,6 +1,7 @@
 //! A player's own moves on vectors.
 ghost use Rattle.std.specs.Prelude.{◌≡◌, ◌<◌, ◌≤◌, Option, length};
-ghost use Rattle.pg_vec_player.specs.Prelude.{remove, lost_vector, vec_move, with_target, vector_spans};
+ghost use Rattle.pg_vec_player.specs.Prelude.{remove, lost_vector, vec_move, with_target};
+ghost use Rattle.pg_vec_player.specs.Prelude.{vector_spans};
 ghost use Rattle.pg_vec_player.specs.Judge.{IsVecJudgeOf};
 
 use crate::judge::VecJudge;

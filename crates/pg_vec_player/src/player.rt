@@ -1,7 +1,12 @@
 //! A player of one side of a game on vectors by a checked claim.
-ghost use Rattle.std.specs.Prelude.{◌≡◌, ℕ, List, Some, None, Err, true, false, IfOk, IfErr, IfSome, IsTrue, ◌↔◌, option_map};
-ghost use Rattle.pg_vec_player.specs.Prelude.{Win, ending_by, judged_by, reaches, ForcesBy, IsPlayBy, played_by, vector_rules};
-ghost use Rattle.pg_vec_player.specs.Player.{is_vec_claim_of, chosen_vec_claim, plan_of_claim, plan_of_body, vec_start, VecWaits, MakesVecMove, MovesOnVectors, AnswersOnVectors, VecPlanHolds, IsVecDue};
+ghost use Rattle.std.specs.Prelude.{◌≡◌, ℕ, List, Some, None, Err, true, false, IfOk, IfErr};
+ghost use Rattle.std.specs.Prelude.{IfSome, IsTrue, ◌↔◌, option_map};
+ghost use Rattle.pg_vec_player.specs.Prelude.{Win, ending_by, judged_by, reaches, ForcesBy};
+ghost use Rattle.pg_vec_player.specs.Prelude.{IsPlayBy, played_by, vector_rules};
+ghost use Rattle.pg_vec_player.specs.Player.{is_vec_claim_of, chosen_vec_claim, plan_of_claim};
+ghost use Rattle.pg_vec_player.specs.Player.{plan_of_body, vec_start, VecWaits, MakesVecMove};
+ghost use Rattle.pg_vec_player.specs.Player.{MovesOnVectors, AnswersOnVectors, VecPlanHolds};
+ghost use Rattle.pg_vec_player.specs.Player.{IsVecDue};
 
 use crate::judge::{BIAS, VecJudge, play};
 use crate::moves::own_move;

@@ -1,7 +1,9 @@
 //! The commands, by their positionals and options.
 ghost use Rattle.std.specs.Prelude.{◌≡◌, IfOk, option_map, string_bytes};
 ghost use Rattle.pg_words.specs.Ordered.{ordered, text, texts};
-ghost use Rattle.pg_words.specs.Words.{asked_by, bridge, check, generate, limit_of, made, of_family, play, plain, recorded, report, reviewed, rows, scatter, scatter_of, solve, task_of};
+ghost use Rattle.pg_words.specs.Words.{asked_by, bridge, check, generate, limit_of, made};
+ghost use Rattle.pg_words.specs.Words.{of_family, play, plain, recorded, report, reviewed, rows};
+ghost use Rattle.pg_words.specs.Words.{scatter, scatter_of, solve, task_of};
 
 use crate::command::Command;
 use crate::family::{Family, FamilyTask};

@@ -4,7 +4,8 @@ use Rattle.pg_plain.specs.Attacks.{LeadsWithin, IsReply, ReplyLeads}
 use Rattle.pg_plain.proofs.ThreatSearches.{within-filling, within-reply, within-none, reply-range}
 use Rattle.pg_plain.proofs.ThreatSearches.{none-more}
 use Rattle.pg_plain.proofs.threat_search.+attacks_and_replies.Goals as goal
-use Rattle.pg_plain.proofs.threat_search.+attacks_and_replies.Goals.{reply_leads-else-is_forcing-via-then-is_forcing+else-leads_within, reply_leads-else-is_forcing-via-else-is_forcing}
+use Rattle.pg_plain.proofs.threat_search.+attacks_and_replies.Goals.{reply_leads-else-is_forcing-via-then-is_forcing+else-leads_within}
+use Rattle.pg_plain.proofs.threat_search.+attacks_and_replies.Goals.{reply_leads-else-is_forcing-via-else-is_forcing}
 
 pub leads_within-returns-then-can_fill : goal.leads_within-returns-then-can_fill
 leads_within-returns-then-can_fill t c =
