@@ -263,9 +263,9 @@ impl<G: Ground> Exchange<G> {
     {
         let mut neither = self.neither();
         let mut common = self.common();
-        while let Some(_pair) = self.shift(&neither, &common) {
-            neither = self.neither();
-            common = self.common();
+        while let Some((x, y)) = self.shift(&neither, &common) {
+            neither.take(x);
+            common.take(y);
         }
     }
 }

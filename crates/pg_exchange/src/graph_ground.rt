@@ -145,16 +145,7 @@ fn grown(
         (contains result) }
     ensures kept { joiner.new ≡ joiner.old }
 {
-    let mut result = *base;
-    for k in 0..g.edge_count() + 1 {
-        if candidates.has(k) {
-            let (u, v) = g.ends_of(k);
-            if !joiner.joined(g, &x.union(&result), u, v) {
-                result.put(k);
-            }
-        }
-    }
-    result
+    joiner.extended(g, x, base, candidates)
 }
 
 impl Ground for GraphGround {
