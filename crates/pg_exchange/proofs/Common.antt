@@ -28,4 +28,4 @@ pub use Rattle.std.proofs.Math.Path.{fun_ext}
 pub use Rattle.std.proofs.lemmas.Bool.{and_from, and_parts, both_ways, cases_Bool, cases_eq}
 pub use Rattle.std.proofs.lemmas.Bool.{cases_lt, eq-eqb, eqb-true, false_from_ne_true, lt-ltb}
 pub use Rattle.std.proofs.lemmas.Bool.{ltb-true, ne_eqb, not-false, not-true, not_from_false}
-pub use Rattle.std.proofs.lemmas.Bool.{or_cases, true_from_ne_false}
+pub use Rattle.std.proofs.lemmas.Bool.{or_cases, or_left, or_right, true_from_ne_false}
