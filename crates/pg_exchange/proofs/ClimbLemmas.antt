@@ -1,5 +1,6 @@
 -- Steps up from two labels, until they meet.
-use Rattle.std.proofs.Common.{◌≡◌, ◌≢◌, ℕ, ◌<◌, ◌≤◌, Bool, true, false, inl, inr, refl, sym, ap}
+use Rattle.std.proofs.Common.{◌≡◌, ◌≢◌, ◌⊎◌, ℕ, ◌<◌, ◌≤◌, Bool, true, false, inl, inr, refl, sym}
+use Rattle.std.proofs.Common.{ap}
 use Rattle.std.proofs.Common.{◌∙◌, subst, arith}
 use Rattle.pg_exchange.proofs.Common.{both_ways, false_from_ne_true, plus, minus, plus_cases}
 use Rattle.pg_exchange.proofs.Common.{plus_old, plus_new, minus_parts, IsJoined, joined_on}
@@ -151,3 +152,47 @@ module _ (a b : ℕ → ℕ) (base : ℕ → Bool) (depth above via : ℕ → �
           (joined_back a b (minus found y) from to j)
     ];
   }
+
+  -- ---- from either end
+
+  -- steps were followed from both ends, the first of which may be either
+  abbrev pub IsClimbedEither : ℕ → ℕ → ℕ → ℕ → (ℕ → Bool) → Type 0
+  IsClimbedEither from to p q found = IsClimbed a b base depth above via from to p q found
+      ⊎ IsClimbed a b base depth above via to from p q found
+
+  pub IsClimbedEither-turned : (from to p q deep high : ℕ) (found : ℕ → Bool)
+      → ((deep ≡ p) × (high ≡ q)) ⊎ ((deep ≡ q) × (high ≡ p))
+      → IsClimbedEither from to p q found
+      → IsClimbedEither from to deep high found
+  IsClimbedEither-turned from to p q deep high found same t =
+      elim same [
+        | inl e ↦ subst (λ (y : ℕ). IsClimbedEither from to y high found) (sym e.0)
+            (subst (λ (y : ℕ). IsClimbedEither from to p y found) (sym e.1) t)
+        | inr e ↦ subst (λ (y : ℕ). IsClimbedEither from to y high found) (sym e.0)
+            (subst (λ (y : ℕ). IsClimbedEither from to q y found) (sym e.1) (elim t [
+              | inl i ↦ inr (IsClimbed-turned from to p q found i)
+              | inr i ↦ inl (IsClimbed-turned to from p q found i)
+            ]))
+      ]
+
+  pub IsClimbedEither-step : (from to p q : ℕ) (found reached : ℕ → Bool)
+      → p ≢ q
+      → depth q ≤ depth p
+      → IsStep a b base reached above via depth p
+      → IsClimbedEither from to p q found
+      → IsClimbedEither from to (above p) q (plus found (via p))
+  IsClimbedEither-step from to p q found reached d deep s t =
+      elim t [
+        | inl i ↦ inl (IsClimbed-step from to p q found i reached d deep s)
+        | inr i ↦ inr (IsClimbed-step to from p q found i reached d deep s)
+      ]
+
+  pub IsPath-either : (from to p q : ℕ) (found : ℕ → Bool)
+      → p ≡ q
+      → IsClimbedEither from to p q found
+      → IsPath a b base from to found
+  IsPath-either from to p q found e t =
+      elim t [
+        | inl i ↦ IsPath-climbed from to p q found e i
+        | inr i ↦ IsPath-climbed from to q p found (sym e) (IsClimbed-turned to from p q found i)
+      ]

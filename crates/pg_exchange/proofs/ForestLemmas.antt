@@ -1,14 +1,17 @@
 -- Spanning forests, an edge at a time.
 use Rattle.std.proofs.Common.{◌≡◌, ℕ, ◌<◌, ◌+◌, Bool, true, false, not, ◌||◌, eqb, refl, inl, inr}
-use Rattle.std.proofs.Common.{sym, subst, arith}
+use Rattle.std.proofs.Common.{sym, subst, arith, zero, suc, ◌&&◌}
 use Rattle.pg_exchange.proofs.Common.{fun_ext, cases_eq, cases_Bool, and_parts, or_cases, eqb-true}
 use Rattle.pg_exchange.proofs.Common.{both_ways, plus, both, either, outside, below, IsWithin}
 use Rattle.pg_exchange.proofs.Common.{IsBelow, plus_cases, plus_old, plus_new, both_parts}
 use Rattle.pg_exchange.proofs.Common.{both_from, either_left, either_right, either_cases}
 use Rattle.pg_exchange.proofs.Common.{outside_parts, outside_from, below_parts, below_from, Graph}
 use Rattle.pg_exchange.proofs.Common.{edge_count, AreEdges, IsSpan, IsBase, spans_mono, free_plus}
+use Rattle.pg_exchange.proofs.Common.{and_from, not-true, not_from_false, true_from_ne_false}
+use Rattle.pg_exchange.proofs.Common.{spans_in, extended, extended-begin, extended-in, extended-out}
 use Rattle.pg_exchange.specs.Matroid.{Matroid}
 use Rattle.pg_exchange.specs.Forest.{elements_of, IsApart, IsFree, IsGrown}
+use Rattle.pg_exchange.specs.ForestLaws.{IsSpan-graph_matroid}
 
 -- ---- elements
 
@@ -105,6 +108,40 @@ module _ (spans : (ℕ → Bool) → ℕ → Bool) (law : IsSpan spans) (base ca
               (i.spanning f (below_from candidates n f p.0 (omega arith)))
         ];
   }
+
+-- what a joiner makes of a free set by candidates is grown
+module _ (g : Graph) (x base candidates : ℕ → Bool)
+    (free : IsFree (λ a k. spans_in g (either x a) k) base) where
+  pub IsGrown-extended : (n : ℕ)
+      → IsGrown (λ a k. spans_in g (either x a) k) base (below candidates n)
+      (extended g x candidates base n)
+  IsGrown-extended zero = subst
+      (λ (s : ℕ → Bool). IsGrown (λ a k. spans_in g (either x a) k) base (below candidates 0) s)
+      (extended-begin g x candidates base)
+      (IsGrown-begin (λ a k. spans_in g (either x a) k) (IsSpan-graph_matroid g x x) base candidates
+      0 refl free)
+  IsGrown-extended (suc n) =
+      let spans : (ℕ → Bool) → ℕ → Bool = λ a k. spans_in g (either x a) k in
+      let law = IsSpan-graph_matroid g x x in
+      let there = extended g x candidates base n in
+      let before : IsGrown spans base (below candidates n) there = IsGrown-extended n in
+      let next : n + 1 ≡ suc n = omega arith in
+      subst
+      (λ (m : ℕ). IsGrown spans base (below candidates m) (extended g x candidates base (suc n)))
+      next (elim (cases_Bool (candidates n && not (spans there n))) [
+        | inl t ↦
+            let on : candidates n ≡ true = (and_parts _ _ t).0 in
+            let out : spans there n ≡ false = not-true _ (and_parts _ _ t).1 in
+            subst (λ (s : ℕ → Bool). IsGrown spans base (below candidates (n + 1)) s)
+            (extended-in g x candidates base n (suc n) refl on out)
+            (IsGrown-add spans law base candidates there n on out before)
+        | inr o ↦
+            let skip : candidates n ≡ true → spans there n ≡ true = λ on. true_from_ne_false _
+            (λ out. both_ways _ o (and_from _ _ on (not_from_false _ out))) in
+            subst (λ (s : ℕ → Bool). IsGrown spans base (below candidates (n + 1)) s)
+            (extended-out g x candidates base n (suc n) refl skip)
+            (IsGrown-skip spans law base candidates there n skip before)
+      ])
 
 -- a free set grown by the elements that aren't avoided, and then by those that are, is a base
 module _ (spans : (ℕ → Bool) → ℕ → Bool) (law : IsSpan spans)

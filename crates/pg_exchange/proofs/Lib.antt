@@ -11,4 +11,5 @@ pub mod ReachLemmas
 pub mod PathLemmas
 pub mod Contraction
 pub mod ClimbLemmas
+pub mod StarLemmas
 pub mod LevelLemmas

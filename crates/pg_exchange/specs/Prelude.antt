@@ -1,11 +1,11 @@
 -- What the definitions of this crate name of std and of the crates below.
 pub use Rattle.pg_base.specs.Points.{AreBelow, ShareNone}
-pub use Rattle.pg_base.specs.Sets.{IsBelow, IsWithin, below, either, minus, one_if, outside}
-unfoldable pub use Rattle.pg_base.specs.Sets.{both, count, plus}
+pub use Rattle.pg_base.specs.Sets.{IsBelow, IsWithin, below, either, minus, one_if}
+unfoldable pub use Rattle.pg_base.specs.Sets.{both, count, outside, plus}
 pub use Rattle.pg_base.specs.declared.limits.TheConstants.{MAX_MEMBERS}
 pub use Rattle.pg_graph.specs.Graph.{IsGraph, IsJoinedIn, edge_count, first_end_of, second_end_of}
 pub use Rattle.pg_graph.specs.Graph.{spans_in}
-pub use Rattle.pg_graph.specs.Joiner.{AreEdges, IsMadeFor}
+pub use Rattle.pg_graph.specs.Joiner.{AreEdges, IsMadeFor, extended}
 pub use Rattle.pg_graph.specs.Labels.{AreLabels}
 pub use Rattle.pg_graph.specs.Span.{IsBase, IsReached, IsSpan, circuit}
 unfoldable pub use Rattle.pg_graph.specs.Span.{swapped}

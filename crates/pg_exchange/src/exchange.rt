@@ -12,7 +12,7 @@ ghost use Rattle.pg_exchange.specs.Chain.{IsLeast, IsSettled, IsMoved, IsShift, 
 ghost use Rattle.pg_exchange.specs.Chain.{up_of, second_of};
 
 use crate::ground::Ground;
-use crate::search::{Parent, explore, follow, members, shared, take_next};
+use crate::search::{Parent, explore, first_shared, follow, members, shared, take_next};
 use pg_base::{MAX_MEMBERS, PointSet};
 
 /// Two bases of one ground.
@@ -183,7 +183,7 @@ impl<G: Ground> Exchange<G> {
         let mut level = *from;
         let mut later = PointSet::empty();
         while let Some(f) = take_next(&mut level, &mut later) {
-            if let Some(y) = shared(&seen, to).first_from(0) {
+            if let Some(y) = first_shared(&seen, to) {
                 let x = self.exchange(from, &parents, y);
                 return Some((x, y));
             }
@@ -263,9 +263,9 @@ impl<G: Ground> Exchange<G> {
     {
         let mut neither = self.neither();
         let mut common = self.common();
-        while let Some(_pair) = self.shift(&neither, &common) {
-            neither = self.neither();
-            common = self.common();
+        while let Some((x, y)) = self.shift(&neither, &common) {
+            neither.take(x);
+            common.take(y);
         }
     }
 }

@@ -4,10 +4,12 @@ ghost use Rattle.pg_exchange.specs.Prelude.{contains, AreBelow, ShareNone, eithe
 ghost use Rattle.pg_exchange.specs.Prelude.{MAX_MEMBERS, IsGraph, edge_count, spans_in, IsMadeFor};
 ghost use Rattle.pg_exchange.specs.Prelude.{AreEdges, AreLabels, IsBase};
 ghost use Rattle.pg_exchange.specs.Forest.{graph_matroid, elements_of, IsApart, IsFree, IsGrown};
+ghost use Rattle.pg_exchange.specs.Stars.{AreStars};
 
 use crate::ground::Ground;
 use crate::path::{Step, path};
 use crate::search::shared;
+use crate::stars::stars_of;
 use pg_base::{MAX_MEMBERS, Memory, PointSet};
 use pg_graph::{Ends, Graph, Joiner, labels};
 use std::alloc::Global;
@@ -19,6 +21,7 @@ use std::alloc::Global;
 pub struct GraphGround {
     graph: Graph,
     names: Vec<u16>,
+    stars: Vec<PointSet>,
     steps: Vec<Step>,
     x: PointSet,
     elements: PointSet,
@@ -26,6 +29,7 @@ pub struct GraphGround {
     ghost fits: { IsGraph graph },
     ghost few: { graph.vertices ≤ MAX_MEMBERS },
     ghost labelled: { AreLabels graph (contains x) names.items },
+    ghost starred: { AreStars graph names.items (suc (edge_count graph)) stars.items },
     ghost steps_size: { vec_len steps ≡ graph.vertices },
     ghost x_edges: { AreEdges graph (contains x) },
     ghost element_edges: { AreEdges graph (contains elements) },
@@ -84,6 +88,7 @@ impl GraphGround {
         let base = grown(&mut joiner, g, x, &shared(&elements, avoided), &others);
         let ends = g.ends.as_slice().to_vec(alloc)?;
         let names = labels(alloc, g, x)?;
+        let stars = stars_of(alloc, g, &names)?;
         let nowhere = Step {
             above: 0,
             via: 0,
@@ -99,6 +104,7 @@ impl GraphGround {
         Ok(GraphGround {
             graph,
             names,
+            stars,
             steps,
             x: *x,
             elements,
@@ -145,16 +151,7 @@ fn grown(
         (contains result) }
     ensures kept { joiner.new ≡ joiner.old }
 {
-    let mut result = *base;
-    for k in 0..g.edge_count() + 1 {
-        if candidates.has(k) {
-            let (u, v) = g.ends_of(k);
-            if !joiner.joined(g, &x.union(&result), u, v) {
-                result.put(k);
-            }
-        }
-    }
-    result
+    joiner.extended(g, x, base, candidates)
 }
 
 impl Ground for GraphGround {
@@ -184,6 +181,7 @@ impl Ground for GraphGround {
         path(
             &mut self.steps,
             &self.names,
+            &self.stars,
             &self.graph,
             &self.base,
             from,

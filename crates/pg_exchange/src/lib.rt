@@ -8,6 +8,7 @@ mod graph_ground;
 mod ground;
 mod path;
 mod search;
+mod stars;
 mod trees;
 
 pub use exchange::Exchange;

@@ -7,7 +7,10 @@ ghost use Rattle.pg_exchange.specs.Prelude.{contains, IsBelow, AreEdges, IsJoine
 ghost use Rattle.pg_exchange.specs.Path.{first_label, second_label, HasEnds, IsLabelled};
 ghost use Rattle.pg_exchange.specs.Path.{IsReachedBoth, above_of, via_of, depth_of, IsStep};
 ghost use Rattle.pg_exchange.specs.Path.{SpreadsOn, IsSwept, IsFound, IsPath, any};
+ghost use Rattle.pg_exchange.specs.Stars.{AreStarred};
 
+use crate::search::shared;
+use crate::stars::gather;
 use pg_base::{MAX_MEMBERS, PointSet};
 use pg_graph::Graph;
 
@@ -27,12 +30,13 @@ pub(crate) struct Step {
 pub(crate) fn path(
     steps: &mut [Step],
     names: &[u16],
+    stars: &[PointSet],
     g: &Graph,
     base: &PointSet,
     from: u16,
     to: u16,
 ) -> PointSet
-    requires labelled { IsLabelled g.now names.now }
+    requires starred { AreStarred g.now names.now stars.now }
     requires steps { length steps.old ≡ g.now.vertices }
     requires base { AreEdges g.now (contains base.now) }
     requires from { from < g.now.vertices }
@@ -45,7 +49,7 @@ pub(crate) fn path(
     if let Some(known) = climb(steps, names, g, base, from, to) {
         return known;
     }
-    find(steps, names, g, base, from, to);
+    find(steps, names, stars, g, base, from);
     let mut found = PointSet::empty();
     let mut here = to;
     while here != from {
@@ -77,23 +81,30 @@ fn climb(
     let mut found = PointSet::empty();
     let (mut p, mut q) = (from, to);
     while p != q {
-        if steps[p as usize].depth < steps[q as usize].depth {
-            if !fits(steps, names, g, base, q) {
-                return None;
-            }
-            let step = steps[q as usize];
-            found.put(step.via);
-            q = step.above;
-        } else {
-            if !fits(steps, names, g, base, p) {
-                return None;
-            }
-            let step = steps[p as usize];
-            found.put(step.via);
-            p = step.above;
+        let (deep, high) = deeper_first(steps, p, q);
+        if !fits(steps, names, g, base, deep) {
+            return None;
         }
+        let step = steps[deep as usize];
+        found.put(step.via);
+        p = step.above;
+        q = high;
     }
     Some(found)
+}
+
+/// Two labels, the one that lies deeper first.
+fn deeper_first(steps: &[Step], p: u16, q: u16) -> (u16, u16)
+    requires p { p < length steps.now }
+    requires q { q < length steps.now }
+    ensures same { ((result.0 ≡ p) × (result.1 ≡ q)) ⊎ ((result.0 ≡ q) × (result.1 ≡ p)) }
+    ensures deeper { depth_of steps.now result.1 ≤ depth_of steps.now result.0 }
+{
+    if steps[p as usize].depth < steps[q as usize].depth {
+        (q, p)
+    } else {
+        (p, q)
+    }
 }
 
 /// Whether the step up from a label goes along a member of the base, to a label that lies less
@@ -125,42 +136,38 @@ fn are_ends(a: u16, b: u16, p: u16, q: u16) -> bool
     if a == p { b == q } else { a == q && b == p }
 }
 
-/// Goes from label to label along members, from `from` until nothing more is reached, `to` among
-/// the labels, and writes at each from where and by which member it was reached.
-fn find(steps: &mut [Step], names: &[u16], g: &Graph, base: &PointSet, from: u16, to: u16)
-    requires labelled { IsLabelled g.now names.now }
+/// Goes from label to label along members, from `from` until nothing more is reached, and writes at
+/// each label from where and by which member it was reached.
+///
+/// Each round tries the members in the stars of the labels that the last one reached.
+fn find(
+    steps: &mut [Step],
+    names: &[u16],
+    stars: &[PointSet],
+    g: &Graph,
+    base: &PointSet,
+    from: u16,
+)
+    requires starred { AreStarred g.now names.now stars.now }
     requires steps { length steps.old ≡ g.now.vertices }
     requires base { AreEdges g.now (contains base.now) }
     requires from { from < g.now.vertices }
-    requires to { to < g.now.vertices }
-    requires joined { IsJoined (first_label g.now names.now) (second_label g.now names.now)
-        (contains base.now) from to }
-    ensures { IsFound (first_label g.now names.now) (second_label g.now names.now)
-        (contains base.now) from to g.now.vertices (above_of steps.new) (via_of steps.new) }
+    ensures { (to : ℕ)
+        → IsJoined (first_label g.now names.now) (second_label g.now names.now) (contains base.now)
+        from to
+        → IsFound (first_label g.now names.now) (second_label g.now names.now) (contains base.now)
+        from to g.now.vertices (above_of steps.new) (via_of steps.new) }
 {
     let mut left = *base;
     let mut reached = PointSet::empty();
     reached.put(from);
-    while !reached.has(to) {
-        sweep(steps, names, g, &mut left, &mut reached);
-    }
-    finish(steps, names, g, &mut left, &mut reached);
-}
-
-/// Sweeps on until a sweep leaves nothing out any more.
-fn finish(steps: &mut [Step], names: &[u16], g: &Graph, left: &mut PointSet, reached: &mut PointSet)
-    requires labelled { IsLabelled g.now names.now }
-    requires steps { length steps.old ≡ g.now.vertices }
-    requires left { AreEdges g.now (contains left.old) }
-    requires reached { IsBelow (contains reached.old) g.now.vertices }
-    ensures { SpreadsOn (first_label g.now names.now) (second_label g.now names.now)
-        (contains left.old) g.now.vertices (contains reached.old) steps.old
-        (contains reached.new) steps.new }
-{
-    let mut size = u32::from(MAX_MEMBERS) + 1;
-    while left.len() < size {
-        size = left.len();
-        sweep(steps, names, g, left, reached);
+    let mut fresh = reached;
+    while let Some(_label) = fresh.first_from(0) {
+        let before = reached;
+        let mut near = shared(&gather(stars, &fresh), &left);
+        left = left.without(&near);
+        sweep(steps, names, g, &mut near, &mut reached);
+        fresh = reached.without(&before);
     }
 }
 

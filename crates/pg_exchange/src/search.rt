@@ -1,5 +1,5 @@
 //! Searches along the links of a base.
-ghost use Rattle.std.specs.Prelude.{◌≡◌, ◌<◌, ℕ, true, false, IfSome, IfNone, length};
+ghost use Rattle.std.specs.Prelude.{◌≡◌, ◌<◌, ◌≤◌, ℕ, true, false, IfSome, IfNone, length};
 ghost use Rattle.pg_exchange.specs.Prelude.{contains, both, either, minus, outside};
 ghost use Rattle.pg_exchange.specs.Chain.{links, IsNoted, IsRolled, IsNext};
 
@@ -82,6 +82,24 @@ pub(crate) fn shared(a: &PointSet, b: &PointSet) -> PointSet
     ensures { contains result ≡ both (contains a.now) (contains b.now) }
 {
     a.without(&a.without(b))
+}
+
+/// The least point of both sets, and None exactly where they share none.
+pub(crate) fn first_shared(a: &PointSet, b: &PointSet) -> Option<u16>
+    ensures found { IfSome result (λ y. both (contains a.now) (contains b.now) y ≡ true) }
+    ensures least { IfSome result
+        (λ y. (z : ℕ) → both (contains a.now) (contains b.now) z ≡ true → y ≤ z) }
+    ensures none { IfNone result
+        ((z : ℕ) → both (contains a.now) (contains b.now) z ≡ false) }
+{
+    if a.shares_none(b) {
+        return None;
+    }
+    if let Some(y) = shared(a, b).first_from(0) {
+        Some(y)
+    } else {
+        None
+    }
 }
 
 /// Takes the least element of the level that is being followed, and goes to the next level where

@@ -9,6 +9,7 @@ use Rattle.pg_graph.proofs.Common.{either_cases, either_left, either_right, plus
 use Rattle.pg_graph.specs.declared.graph.Graph.{Graph}
 use Rattle.pg_graph.specs.Graph.{JoinsEndsOf, IsBridge, first_end_of, second_end_of, spans_in}
 use Rattle.pg_graph.proofs.GraphLemmas.{IsSpan-graph, unspanned-from, unspanned-apart}
+use Rattle.pg_graph.proofs.Growing.{plus_either}
 use Rattle.pg_graph.proofs.Swap.{spans_trade}
 use Rattle.pg_graph.proofs.WalkLemmas.{joined_more}
 
@@ -26,9 +27,6 @@ module _ (set members : ℕ → Bool) where
         | inr b ↦ let low = (below_parts (both set members) 0 z b).1 in absurd (omega arith)
       ])
       (λ z h. either_left (outside set members) (below (both set members) 0) z h)
-
-  plus_either : (a b : ℕ → Bool) (k : ℕ) → plus (either a b) k ≡ either a (plus b k)
-  plus_either a b k = same_sets _ _ (λ z h. grind (arith, sets)) (λ z h. grind (arith, sets))
 
   pub united-in : (k : ℕ)
       → set k ≡ true

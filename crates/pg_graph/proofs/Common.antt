@@ -2,7 +2,8 @@
 pub use Rattle.pg_graph.specs.Prelude.{FinSet, IsBelow, IsWithin, contains, minus, one_if, plus}
 unfoldable pub use Rattle.pg_graph.specs.Prelude.{below, both, count, cut_below, either, outside}
 pub use Rattle.pg_base.proofs.BelowLemmas.{below_from, below_in, below_out, below_parts, same_sets}
-pub use Rattle.pg_base.proofs.PointSetLaws.{contains-difference_outside, contains-remove_minus}
+pub use Rattle.pg_base.proofs.PointSetLaws.{contains-difference_outside, contains-insert_plus}
+pub use Rattle.pg_base.proofs.PointSetLaws.{contains-remove_minus, contains-union_either}
 pub use Rattle.pg_base.proofs.SetLemmas.{both_from, both_parts, count_both_either, count_le}
 pub use Rattle.pg_base.proofs.SetLemmas.{count_minus, count_plus, either_cases, either_left}
 pub use Rattle.pg_base.proofs.SetLemmas.{either_right, find_below, minus_from, minus_parts}

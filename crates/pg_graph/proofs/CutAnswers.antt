@@ -1,14 +1,10 @@
 -- Cuts in play: an answer to the loss of an edge keeps two sets that bridge each other.
-use Rattle.std.proofs.Common.{◌≡◌, ◌≢◌, ℕ, Bool, true, false, suc, inl, inr, sym, subst}
+use Rattle.std.proofs.Common.{◌≡◌, ◌≢◌, ℕ, Bool, true, false, inl, inr, sym, subst}
 use Rattle.pg_graph.proofs.Common.{both_ways, cases_Bool, false_from_ne_true, minus, outside}
-use Rattle.pg_graph.proofs.Common.{IsWithin, IsBelow, minus_parts, minus_from, outside_parts}
+use Rattle.pg_graph.proofs.Common.{IsWithin, IsBelow, minus_parts, minus_from}
 use Rattle.pg_graph.proofs.Common.{outside_from}
-use Rattle.pg_graph.specs.Graph.{edge_count, spans_in, first_end_of, second_end_of}
-use Rattle.pg_graph.specs.Joiner.{AreEdges, Parts}
 use Rattle.pg_graph.specs.Span.{IsSpan, IsCuts}
-use Rattle.pg_graph.specs.declared.graph.Graph.{Graph}
 use Rattle.pg_graph.proofs.FreeLemmas.{still_free, still_free_without, free_again}
-use Rattle.pg_graph.proofs.GraphLemmas.{IsSpan-graph, spans_in-sound, spans_in-complete}
 use Rattle.pg_graph.proofs.Swap.{spans_less}
 use Rattle.pg_graph.proofs.Cuts.{IsCuts-other, IsCuts-dropped, IsCuts-claimed, IsCuts-answered}
 use Rattle.pg_graph.proofs.Cuts.{find_parting}

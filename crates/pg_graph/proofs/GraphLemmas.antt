@@ -3,13 +3,13 @@ use Rattle.std.proofs.Common.{◌≡◌, ℕ, ◌<◌, ◌≤◌, Bool, true, fa
 use Rattle.std.proofs.Common.{◌++◌, length, get_or, refl, arith, inl, inr, sym, ap, ◌∙◌, subst}
 use Rattle.std.proofs.Common.{zero, suc}
 use Rattle.pg_graph.proofs.Common.{cases_lt, cases_Bool, both_ways, and_parts, and_from, or_cases}
-use Rattle.pg_graph.proofs.Common.{or_left, or_right, false_from_ne_true, not_from_false, not-true}
-use Rattle.pg_graph.proofs.Common.{minus, below, IsBelow, below_parts, below_from}
+use Rattle.pg_graph.proofs.Common.{or_left, or_right, false_from_ne_true, not-true}
+use Rattle.pg_graph.proofs.Common.{below, IsBelow, below_parts, below_from}
 use Rattle.std.proofs.lemmas.List.Elements.{All-get_or}
 use Rattle.pg_graph.specs.Walks.{joins, edge_spans, first_end, second_end}
 use Rattle.pg_graph.specs.Span.{IsSpan}
 use Rattle.pg_graph.specs.Graph.{IsGraph, edge_count, with_e, first_end_of, second_end_of}
-use Rattle.pg_graph.specs.Graph.{IsJoinedIn, JoinsEndsOf, joins_in, spans_in, IsBridge, is_bridge}
+use Rattle.pg_graph.specs.Graph.{IsJoinedIn, JoinsEndsOf, joins_in, spans_in}
 use Rattle.pg_graph.specs.Joiner.{AreEdges}
 use Rattle.pg_graph.specs.declared.graph.Graph.{Graph}
 use Rattle.pg_graph.proofs.WalkLemmas.{joined_more, joins_sound, joins_complete}

@@ -12,6 +12,7 @@ pub mod Trees
 pub mod Cuts
 pub mod EdgeTests
 pub mod FreeLemmas
+pub mod Growing
 mod Bridges
 pub mod TreeAnswers
 pub mod CutAnswers

@@ -1,7 +1,7 @@
 -- Roots that stand for joined vertices, a union at a time.
 use Rattle.std.proofs.Common.{◌≡◌, ◌≢◌, ℕ, ◌<◌, ◌≤◌, ◌↔◌, IsTrue, Bool, false, ◌⊎◌, eqb, cond, List}
-use Rattle.std.proofs.Common.{length, get_or, arith, sym, ap, ◌∙◌, subst}
-use Rattle.pg_graph.proofs.Common.{set, plus}
+use Rattle.std.proofs.Common.{length, get_or, arith, sym, ap, ◌∙◌, subst, inl, inr, refl}
+use Rattle.pg_graph.proofs.Common.{set, plus, cases_eq, eq-eqb, ne_eqb, both_ways}
 use Rattle.pg_graph.specs.declared.graph.Graph.{Graph}
 use Rattle.pg_graph.specs.Graph.{IsGraph, JoinsEndsOf, edge_count, first_end_of, second_end_of}
 use Rattle.pg_graph.specs.Walks.{IsJoined}
@@ -35,6 +35,21 @@ merged parents parents2 u v lo hi upward size same within le root_lo root_hi end
       (own_from_root parents2 upward hi (omega arith) (same hi within ∙ root_hi)) w (omega arith) in
       q ∙ ap (λ z. cond (eqb z hi) lo z) (same w l);
 }
+
+-- vertices below one root are united: the roots stay
+merged-idle : (parents new : List ℕ) (u v : ℕ)
+    → root_of parents u ≡ root_of parents v
+    → IsMerged parents new u v
+    → SameRoots parents new
+merged-idle parents new u v one m w l =
+    let same : m.lo ≡ m.hi = elim m.ends [
+      | inl p ↦ sym p.0 ∙ (one ∙ p.1)
+      | inr p ↦ sym p.1 ∙ (sym one ∙ p.0)
+    ] in
+    m.roots w l ∙ elim (cases_eq (root_of parents w) m.hi) [
+      | inl e ↦ rw (eq-eqb (root_of parents w) m.hi e) (same ∙ sym e)
+      | inr d ↦ rw (ne_eqb (root_of parents w) m.hi d) refl
+    ]
 
 module _ (a b : ℕ → ℕ) (s : ℕ → Bool) where
   pub IsLabelling-begin : (parents : List ℕ)
@@ -132,3 +147,30 @@ ends_two g s k parents ends r h l size is labelled two =
     let label = ends_label g s k parents h l size labelled in
     let q = subst (λ (e : ℕ × ℕ). IsTrue r ↔ (root_of parents e.0 ≢ root_of parents e.1)) is two in
     (λ t j. q.0 t (label.1 j), λ apart. q.1 (λ e. apart (label.0 e)))
+
+-- the ends of an edge, as the code reads them, had one root when they were united: the set joins
+-- them, and the labels stay
+pub IsLabelling-idle : (g : Graph) (s : ℕ → Bool) (k : ℕ) (parents new : List ℕ) (ends : ℕ × ℕ)
+    (r : Bool)
+    → IsGraph g
+    → k ≤ edge_count g
+    → length parents ≡ g.vertices
+    → length new ≡ length parents
+    → ◌≡◌ {A = ℕ × ℕ} ends (first_end_of g k, second_end_of g k)
+    → IsUpward new
+    → IsMerged parents new ends.0 ends.1
+    → (IsTrue r ↔ (root_of parents ends.0 ≢ root_of parents ends.1))
+    → r ≡ false
+    → IsLabelling (first_end_of g) (second_end_of g) s parents
+    → JoinsEndsOf g s k × IsLabelling (first_end_of g) (second_end_of g) s new
+IsLabelling-idle g s k parents new ends r h l size same is upward m two off labelled =
+    let one : root_of parents ends.0 ≡ root_of parents ends.1 =
+    elim (cases_eq (root_of parents ends.0) (root_of parents ends.1)) [
+      | inl e ↦ e
+      | inr d ↦ absurd (both_ways _ off (two.1 d))
+    ] in
+    let here = subst (λ (e : ℕ × ℕ). root_of parents e.0 ≡ root_of parents e.1) is one in (
+      (ends_label g s k parents h l size labelled).0 here,
+      IsLabelling-same (first_end_of g) (second_end_of g) s parents new same upward
+          (merged-idle parents new ends.0 ends.1 one m) labelled,
+    )

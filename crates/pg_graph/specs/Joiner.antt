@@ -1,7 +1,9 @@
 -- What a joiner is made for, and what its calls look for.
-use Rattle.std.specs.Prelude.{◌≡◌, ℕ, ◌<◌, Bool, true, not, ◌&&◌, ◌||◌, suc, ◌⊎◌}
-use Rattle.pg_base.specs.Sets.{minus, IsBelow}
-use Rattle.pg_graph.specs.Graph.{edge_count, IsJoinedIn, joins_in, first_end_of, second_end_of}
+use Rattle.std.specs.Prelude.{◌≡◌, ℕ, ◌<◌, Bool, true, not, ◌&&◌, ◌||◌, zero, suc, ◌⊎◌}
+use Rattle.std.specs.Prelude.{if◌then◌else◌}
+use Rattle.pg_base.specs.Sets.{plus, minus, either, IsBelow}
+use Rattle.pg_graph.specs.Graph.{edge_count, IsJoinedIn, joins_in, spans_in, first_end_of}
+use Rattle.pg_graph.specs.Graph.{second_end_of}
 use Rattle.pg_graph.specs.declared.graph.Graph.{Graph}
 
 -- the numbers of vertices and edges of the graphs that a joiner serves
@@ -55,3 +57,16 @@ pub record IsLowest (candidates : ℕ → Bool) (Fact : ℕ → Type 0) (k : ℕ
   pub candidate : candidates k ≡ true
   pub fact : Fact k
   pub lowest : (j : ℕ) → j < k → candidates j ≡ true → Fact j → ⊥
+
+-- what is there, and k where it is a candidate whose ends the edges of the set and of what is there
+-- don't join
+unfoldable pub with_candidate : Graph → (ℕ → Bool) → (ℕ → Bool) → (ℕ → Bool) → ℕ → ℕ → Bool
+with_candidate g set candidates there k =
+    if candidates k && not (spans_in g (either set there) k) then plus there k else there
+
+-- the base with the candidates below a number, each in its turn, whose ends the edges of the set
+-- and of what is there by then don't join
+unfoldable pub extended : Graph → (ℕ → Bool) → (ℕ → Bool) → (ℕ → Bool) → ℕ → ℕ → Bool
+extended g set candidates base zero = base
+extended g set candidates base (suc k) =
+    with_candidate g set candidates (extended g set candidates base k) k

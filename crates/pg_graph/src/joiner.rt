@@ -1,9 +1,9 @@
 //! Which vertices edges join, and which edges cross, part and bridge.
-ghost use Rattle.std.specs.Prelude.{◌≡◌, ℕ, ◌<◌, ◌↔◌, true, IsTrue, IfOk, IfSome, IfNone};
+ghost use Rattle.std.specs.Prelude.{◌≡◌, ℕ, ◌<◌, ◌↔◌, true, IsTrue, IfOk, IfSome, IfNone, suc};
 ghost use Rattle.std.specs.FinSet.{contains};
-ghost use Rattle.pg_graph.specs.Graph.{IsGraph, IsJoinedIn, JoinsEndsOf, IsBridge};
+ghost use Rattle.pg_graph.specs.Graph.{IsGraph, IsJoinedIn, JoinsEndsOf, IsBridge, edge_count};
 ghost use Rattle.pg_graph.specs.Joiner.{IsMadeFor, AreEdges, AreBothEdges, AreVertices, Crosses};
-ghost use Rattle.pg_graph.specs.Joiner.{Parts, IsLowest};
+ghost use Rattle.pg_graph.specs.Joiner.{Parts, IsLowest, extended};
 
 use crate::graph::Graph;
 use crate::joins;
@@ -141,5 +141,27 @@ impl Joiner {
         ensures kept { self.new ≡ self.old }
     {
         joins::bridges_all(&mut self.parents, g, set, members)
+    }
+
+    /// The base with each candidate, in ascending order, whose ends the edges of the set and of
+    /// what is there by then don't join (`extended`). Candidates that are no edges stay out.
+    ///
+    /// The set and the base are labelled once, and each candidate that comes in unites two labels:
+    /// a walk over them and one over the candidates, in nearly linear time.
+    pub fn extended(
+        &mut self,
+        g: &Graph,
+        set: &PointSet,
+        base: &PointSet,
+        candidates: &PointSet,
+    ) -> PointSet
+        requires graph { IsGraph g.now }
+        requires made { IsMadeFor self.old g.now }
+        requires sets { AreBothEdges g.now (contains set.now) (contains base.now) }
+        ensures extended { contains result ≡ extended g.now (contains set.now)
+            (contains candidates.now) (contains base.now) (suc (edge_count g.now)) }
+        ensures kept { self.new ≡ self.old }
+    {
+        joins::extended(&mut self.parents, g, set, base, candidates)
     }
 }

@@ -1,10 +1,11 @@
 //! What edges join and part, by labels in an array that the caller lends.
 ghost use Rattle.std.specs.Prelude.{◌≡◌, ℕ, ◌<◌, ◌≤◌, ◌↔◌, true, IsTrue, IfSome, IfNone, length};
+ghost use Rattle.std.specs.Prelude.{suc};
 ghost use Rattle.pg_graph.specs.Prelude.{contains, minus};
 ghost use Rattle.pg_graph.specs.Graph.{IsGraph, IsJoinedIn, JoinsEndsOf, IsBridge, edge_count};
 ghost use Rattle.pg_graph.specs.Graph.{first_end_of, second_end_of};
 ghost use Rattle.pg_graph.specs.Joiner.{AreEdges, AreBothEdges, AreVertices, Crosses, Parts};
-ghost use Rattle.pg_graph.specs.Joiner.{IsLowest};
+ghost use Rattle.pg_graph.specs.Joiner.{IsLowest, extended};
 ghost use Rattle.pg_graph.specs.Labels.{HaveOneRoot, IsSplit};
 ghost use Rattle.pg_graph.specs.Roots.{root_of, IsUpward, SameRoots};
 
@@ -198,4 +199,35 @@ pub(crate) fn bridges_all(
         }
     }
     are_apart(parents, g, &members.without(set))
+}
+
+/// The base with each candidate, in ascending order, whose ends the edges of the set and of what is
+/// there by then don't join.
+///
+/// The set and the base are labelled, and each candidate that comes in unites two labels.
+pub(crate) fn extended(
+    parents: &mut [u16],
+    g: &Graph,
+    set: &PointSet,
+    base: &PointSet,
+    candidates: &PointSet,
+) -> PointSet
+    requires graph { IsGraph g.now }
+    requires size { length parents.old ≡ g.now.vertices }
+    requires sets { AreBothEdges g.now (contains set.now) (contains base.now) }
+    ensures { contains result ≡ extended g.now (contains set.now) (contains candidates.now)
+        (contains base.now) (suc (edge_count g.now)) }
+{
+    let begun = set.union(base);
+    label(parents, g, &begun);
+    let mut there = *base;
+    for k in 0..g.edge_count() + 1 {
+        if candidates.has(k) {
+            let (a, b) = g.ends_of(k);
+            if union(parents, a, b) {
+                there.put(k);
+            }
+        }
+    }
+    there
 }

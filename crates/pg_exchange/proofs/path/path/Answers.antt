@@ -11,7 +11,8 @@ pub loop-here-init : goal.loop-here-init
 loop-here-init c = IsTraced-begin (first_label c.args.g.now c.args.names.now)
     (second_label c.args.g.now c.args.names.now) (contains c.args.base.now) c.args.from c.args.to
     c.args.g.now.vertices (contains c.empty-found.result) (above_of c.find.new.steps)
-    (via_of c.find.new.steps) (emptied c.empty-found.result c.empty-found.ensures) c.find.ensures
+    (via_of c.find.new.steps) (emptied c.empty-found.result c.empty-found.ensures)
+    (c.find.ensures c.args.to c.requires.joined)
 
 pub put-requires : goal.put-requires
 put-requires c =
@@ -21,7 +22,7 @@ put-requires c =
     (contains c.loop-here.found) (above_of c.find.new.steps)
     (via_of c.find.new.steps) c.loop-here.invariant c.loop-here-test.true in
     let low = c.requires.base (via_of c.find.new.steps c.loop-here.here) s.member in
-    omega (arith, low, c.requires.labelled.graph.few_edges)
+    omega (arith, low, c.requires.starred.labelled.graph.few_edges)
 
 pub loop-here-smaller : goal.loop-here-smaller
 loop-here-smaller c =
@@ -37,7 +38,7 @@ loop-here-smaller c =
     (above_of c.find.new.steps)
     (via_of c.find.new.steps) c.loop-here.invariant c.loop-here-test.true in
     let low : k < suc (edge_count g) = c.requires.base k s.member in
-    let range : k < 1024 = omega (arith, low, c.requires.labelled.graph.few_edges) in
+    let range : k < 1024 = omega (arith, low, c.requires.starred.labelled.graph.few_edges) in
     let now = with_point c.loop-here.found c.put.new.self k c.put.ensures in
     let more : count (contains c.put.new.self) 1024 ≡ count found 1024 + 1 =
     ap (λ (t : ℕ → Bool). count t 1024) now ∙ count_plus found k 1024 new range in

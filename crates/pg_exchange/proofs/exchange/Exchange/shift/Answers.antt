@@ -1,7 +1,7 @@
 use Rattle.pg_exchange.proofs.Common.{both_ways, false_from_ne_true, either, outside, minus}
 use Rattle.pg_exchange.proofs.Common.{IsWithin, contains, both_parts, both_from, outside_parts}
 use Rattle.pg_exchange.proofs.Common.{outside_from, either_left}
-use Rattle.pg_exchange.proofs.Tests.{emptied, none_left}
+use Rattle.pg_exchange.proofs.Tests.{emptied}
 use Rattle.std.proofs.Common.{◌≡◌, ℕ, Bool, true, false, ap, ◌∙◌, sym, refl, subst, arith, inl, inr}
 use Rattle.pg_exchange.specs.Chain.{links, IsNoted, IsNearest, IsSearch, IsMoved, SomeTree, up_of}
 use Rattle.pg_exchange.specs.Chain.{second_of}
@@ -39,10 +39,8 @@ pub exchange-x-requires-clause-tree : goal.exchange-x-requires-clause-tree
 exchange-x-requires-clause-tree g c =
     let i = c.loop-f.invariant in
     let seen = contains c.loop-f.seen in
-    let y = c.in-Some-first_from.y in
-    let hit = both_parts seen (contains c.args.to.now) y
-    (subst (λ (k : ℕ → Bool). k y ≡ true) c.shared.ensures
-    c.in-Some-first_from.ensures.found.member) in
+    let y = c.in-Some-first_shared.y in
+    let hit = both_parts seen (contains c.args.to.now) y c.in-Some-first_shared.ensures.found in
     let t : SomeTree (g.G.Ground.matroid c.args.self.now.first)
     (g.G.Ground.base c.args.self.now.first) (g.G.Ground.base c.args.self.now.second)
     (contains c.args.from.now) (up_of c.loop-f.parents) (second_of c.loop-f.parents) y = record {
@@ -127,9 +125,8 @@ loop-f-preserved g c =
           (contains c.explore-in-Some.new.todo) (up_of c.explore.new.parents)
           (up_of c.explore-in-Some.new.parents) f c.in-Some.ensures.levels
           (i.search.waiting f c.in-Some.ensures.found)
-          (λ z k. false_from_ne_true _
-          (λ h. both_ways _ (none_left c.shared.result c.in_default-first_from.ensures.none z)
-          (subst (λ (j : ℕ → Bool). j z ≡ true) (sym c.shared.ensures) (both_from _ _ z k h))))
+          (λ z k. false_from_ne_true _ (λ h.
+          both_ways _ (c.in_default-first_shared.ensures.none z) (both_from _ _ z k h)))
           (λ z k o. (outside_parts _ _ _ (i.tree.parent z k o).0).0) es later
           (λ z h n. (noted_new _ _ _ _ _ _ one z h n).0) (λ z h. (noted_seen _ _ _ _ _ _ one z h).0)
           (λ z h n. (noted_new _ _ _ _ _ _ two z h n).0)
@@ -138,10 +135,9 @@ loop-f-preserved g c =
           (contains c.explore-in-Some.new.seen) todo2 f es et z h) [
             | inl k ↦ i.missed z k
             | inr e ↦ subst (λ k. contains c.args.to.now k ≡ false) e
-                (false_from_ne_true _
-                (λ h. both_ways _ (none_left c.shared.result c.in_default-first_from.ensures.none f)
-                (subst (λ (k : ℕ → Bool). k f ≡ true) (sym c.shared.ensures)
-                (both_from _ _ f (i.search.waiting f c.in-Some.ensures.found) h))))
+                (false_from_ne_true _ (λ h.
+                both_ways _ (c.in_default-first_shared.ensures.none f)
+                (both_from _ _ f (i.search.waiting f c.in-Some.ensures.found) h)))
           ];
       kept = record { first = cc; second = cc };
       kept_bases = record { first = cc; second = cc };
@@ -189,8 +185,8 @@ returns-clause-none g c =
       unchanged = i.kept_bases;
     }
 
-pub returns-in-Some-first_from-clause-some : goal.returns-in-Some-first_from-clause-some
-returns-in-Some-first_from-clause-some g c =
+pub returns-in-Some-first_shared-clause-some : goal.returns-in-Some-first_shared-clause-some
+returns-in-Some-first_shared-clause-some g c =
     let i = c.loop-f.invariant in
     let m = g.G.Ground.matroid c.args.self.now.first in
     let b = g.G.Ground.base c.args.self.now.first in
@@ -199,10 +195,9 @@ returns-in-Some-first_from-clause-some g c =
     let d2 = g.G.Ground.base c.exchange-x.new.self.second in
     let from = contains c.args.from.now in
     let x = c.exchange-x.result in
-    let y = c.in-Some-first_from.y in
+    let y = c.in-Some-first_shared.y in
     let hit = both_parts (contains c.loop-f.seen) (contains c.args.to.now) y
-    (subst (λ (k : ℕ → Bool). k y ≡ true) c.shared.ensures
-    c.in-Some-first_from.ensures.found.member) in
+    c.in-Some-first_shared.ensures.found in
     let near : IsNearest m b d from x y = subst (λ q. IsNearest q b d from x y) i.kept.first (subst
     (λ q. IsNearest (g.G.Ground.matroid c.loop-f.self.first) q d from x y) i.kept_bases.first (subst
     (λ q. IsNearest (g.G.Ground.matroid c.loop-f.self.first) (g.G.Ground.base c.loop-f.self.first) q

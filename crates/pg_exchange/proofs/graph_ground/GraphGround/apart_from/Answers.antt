@@ -4,6 +4,8 @@ use Rattle.pg_exchange.proofs.Common.{both_ways, contains, below, either, outsid
 use Rattle.pg_exchange.proofs.Common.{either_cases, outside_parts, below_parts, Graph, IsGraph}
 use Rattle.pg_exchange.proofs.Common.{spans_in, edge_count, AreEdges, AreLabels, IsBase}
 use Rattle.pg_exchange.specs.Forest.{graph_matroid, IsGrown}
+use Rattle.pg_exchange.specs.Path.{IsLabelled}
+use Rattle.pg_exchange.specs.Stars.{AreStars}
 use Rattle.pg_exchange.specs.ForestLaws.{IsSpan-graph_matroid}
 use Rattle.pg_exchange.proofs.Tests.{emptied, of_outside}
 use Rattle.pg_exchange.proofs.ForestLemmas.{elements-edges, IsBase-apart, spanned-apart}
@@ -40,6 +42,15 @@ grown-base-requires-clause-base c z h =
     c.grown-others.ensures.grown.within in
     elements-edges c.args.g.now (contains c.args.x.now) (contains c.args.y.now) c.args.with_e z
     (subst (λ (s : ℕ → Bool). s z ≡ true) c.elements_of-elements.ensures (in_elements z h))
+
+pub stars_of-requires : goal.stars_of-requires
+stars_of-requires c =
+    subst (λ (names : List ℕ). IsLabelled c.args.g.now names) (sym c.deref.ensures.value) (record {
+      graph = c.requires.graph;
+      few = c.requires.few;
+      size = c.in_ok-names.ensures.size;
+      range = c.in_ok-names.ensures.range;
+    })
 
 -- a copy of a list of pairs is the list
 copied : (x y : ℕ × ℕ) → (y.0 ≡ x.0) × (y.1 ≡ x.1) → y ≡ x
@@ -85,6 +96,11 @@ invariant_of-result c =
       few = subst (λ (h : Graph). h.vertices ≤ 1024) (sym own) c.requires.few;
       labelled = subst (λ (h : Graph). AreLabels h x c.in_ok-names.names.items)
           (sym own) c.in_ok-names.ensures;
+      starred = subst
+          (λ (h : Graph). AreStars h c.in_ok-names.names.items (suc (edge_count h))
+          c.in_ok-stars.stars.items) (sym own)
+          (subst (λ (names : List ℕ). AreStars g names (suc (edge_count g))
+          c.in_ok-stars.stars.items) c.deref.ensures.value c.in_ok-stars.ensures);
       steps_size = c.in_ok-steps.ensures.len;
       x_edges = λ z h. subst (λ (h : Graph). z < suc (edge_count h)) (sym own)
           (let low : z < edge_count g = c.requires.x z h in omega arith);

@@ -38,6 +38,7 @@ invariant_of-self c =
       fits = s.fits;
       few = s.few;
       labelled = s.labelled;
+      starred = s.starred;
       steps_size = s.steps_size;
       x_edges = s.x_edges;
       element_edges = s.element_edges;
