@@ -9,6 +9,7 @@ mod edge_sets;
 mod feeding;
 mod leaves;
 mod marks;
+mod masks;
 mod moves;
 mod node;
 mod present;
