@@ -151,14 +151,15 @@ def five_kinds(count: int = 24_980) -> Files:
             put_move(board, nodes, place)
 
 
-def paired_lines(draw: random.Random, points: int, sizes: Iterable[int]) -> list[kit.Line]:
-    """Draws lines of these sizes, of which each begins with two points that no other begins with;
-    the others are drawn."""
+def paired_lines(draw: random.Random, points: int, pairs: int,
+                 sizes: Iterable[int]) -> list[kit.Line]:
+    """Draws lines of these sizes, which begin with so many disjoint pairs in turn; their other
+    points are drawn."""
     order = list(range(points))
     draw.shuffle(order)
     lines = []
     for k, size in enumerate(sizes):
-        own = order[2 * k:2 * k + 2]
+        own = order[k % pairs * 2:][:2]
         lines.append(own + draw.sample(sorted({*order} - {*own}), size - 2))
     return lines
 
@@ -166,22 +167,22 @@ def paired_lines(draw: random.Random, points: int, sizes: Iterable[int]) -> list
 def pairs(count: int = 800) -> Files:
     """Draws nodes of pairs on 256 points, so many a claim: of some pairs X has a point and Y the
     other."""
-    draw, nodes = random.Random(43), []  # type: random.Random, list[str]
-    lines = paired_lines(draw, 256, [2, 3, 4, 5, 6, 7] * 20)
+    draw, nodes, most = random.Random(43), [], 120  # type: random.Random, list[str], int
+    lines = paired_lines(draw, 256, most, [2, 3, 4, 5, 6, 7] * 45)
     for _ in range(count):
-        played = draw.sample(lines, draw.randrange(20))
+        played = draw.sample(lines[:most], draw.randrange(20))
         x, y = (frozenset(line[k] for line in played) for k in (0, 1))
-        own = [f"{line[0]}-{line[1]}" for line in lines if line not in played]
+        own = [f"{line[0]}-{line[1]}" for line in lines[:most] if line not in played]
         draw.shuffle(own)
         nodes.append(row(Place(x, y, "x"), kit.field(["pairs", *own])))
     return claims(Board(256, lines), nodes, Place(x, y, "x"))
 
 
-def all_replies(blocks: int = 26, times: int = 12) -> Files:
+def all_replies(blocks: int = 14, times: int = 24) -> Files:
     """Draws nodes with all 254 replies on 256 points, so many a claim and each several times, and
     below them potentials in any order."""
     draw, nodes = random.Random(44), []  # type: random.Random, list[str]
-    board = Board(256, drawn_lines(45, 256, [7, 8, 9, 10, 12] * 12))
+    board = Board(256, drawn_lines(45, 256, [7, 8, 9, 10, 12] * 9))
     for _ in range(blocks):
         root = drawn_place(draw, board, 254)
         leaves = board.free(root)

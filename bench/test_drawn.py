@@ -79,9 +79,10 @@ class Nodes(unittest.TestCase):
         draw = random.Random(1)
         found = drawn.drawn_place(draw, drawn.Board(9, lines), 3)
         self.assertEqual((len(found.x), len(found.y), found.turn), (3, 3, "x"))
-        lines = drawn.paired_lines(draw, 9, [2, 4, 5])
-        self.assertEqual([len(set(it)) for it in lines], [2, 4, 5])
-        self.assertEqual(len({v for it in lines for v in it[:2]}), 6)
+        lines = drawn.paired_lines(draw, 9, 3, [2, 4, 5, 3])
+        self.assertEqual([len(set(it)) for it in lines], [2, 4, 5, 3])
+        self.assertEqual(len({v for it in lines[:3] for v in it[:2]}), 6)
+        self.assertEqual(lines[3][:2], lines[0])
 
 
 class Files(unittest.TestCase):
