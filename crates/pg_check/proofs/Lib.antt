@@ -13,6 +13,8 @@ mod CheckingSteps
 mod TakenParts
 mod FlatMarks
 mod RowsWithin
+mod RowsApart
+mod MaskWeights
 mod GamePoints
 mod RoundSteps
 mod RoundLaws

@@ -76,7 +76,7 @@ masks-all lines masks i are end = record {
 
 -- ---- a line and its set
 
-member-in : (line : List ℕ) (v : ℕ) → Contains line v → contains (set_of line) v ≡ true
+pub member-in : (line : List ℕ) (v : ℕ) → Contains line v → contains (set_of line) v ≡ true
 member-in line v c =
     in_from_list line v ∙ list_any-one (λ (q : ℕ). q == v) line v c (eq-eqb v v refl)
 

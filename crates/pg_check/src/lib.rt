@@ -16,6 +16,7 @@ mod present;
 mod rounds;
 mod tester;
 mod threats;
+mod totals;
 
 pub use checked::{CheckFault, Checked, check, faults_are_told, valid_claims_are_forced};
 pub use checking::{Checking, Rejected};

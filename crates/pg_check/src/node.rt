@@ -130,7 +130,7 @@ fn passes(
         NodeFault::Moves => !owed || takes_free(g, p, &node.body),
         NodeFault::End => { !owed || ends_right(tester, g, claim.side, claim.goal, p, &node.body) }
         NodeFault::Pairs => !owed || has_pairs(g, claim.side, p, &node.body),
-        NodeFault::Potential => !owed || has_potential(g, claim.side, p, &node.body),
+        NodeFault::Potential => !owed || has_potential(&tester.masks, g, claim.side, p, &node.body),
         NodeFault::Trees => !owed || has_trees(&mut tester.joiner, g, p, &node.body),
         NodeFault::Cuts => !owed || has_cuts(&mut tester.joiner, g, p, &node.body),
         NodeFault::Threat => !owed || has_threat(&mut tester.judge, g, claim.side, p, &node.body),
@@ -171,7 +171,7 @@ fn stands_right(tester: &mut Tester, g: &Game, claim: &Present, p: &Position, bo
     ensures stands { IsTrue result → MeetsCriterion g.now claim.now p.now body.now }
     ensures kept { tester.new ≡ tester.old }
 {
-    if !has_pairs(g, claim.side, p, body) || !has_potential(g, claim.side, p, body) {
+    if !has_pairs(g, claim.side, p, body) || !has_potential(&tester.masks, g, claim.side, p, body) {
         return false;
     }
     if !has_trees(&mut tester.joiner, g, p, body) {
