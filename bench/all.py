@@ -31,6 +31,7 @@ BENCHES = {
     "Searches": "games.py searches",
     "Connectivity games and games on vectors": "games.py families",
     "Large certificates checked": "games.py certificates",
+    "Drawn certificates checked": "games.py drawn",
     "Large game files": "games.py files",
     "Plays with their undo on a board": "parts.py board",
     "Searches for threat lines": "parts.py threat",

@@ -1,7 +1,9 @@
 #!/usr/bin/env python3
 """Measures posgame on large games and certificates: instructions, seconds and memory.
 
-    bench/games.py [PROGRAM] classes | searches | families | certificates | files [--only WORD]
+    bench/games.py [PROGRAM] PART [--only WORD]
+
+PART is classes, searches, families, certificates, drawn or files.
 
 Instructions are counted by callgrind; searches and certificates are measured without it too. What
 reading a game takes is measured by a check of an empty certificate.
@@ -19,6 +21,9 @@ Bridg-it board must have the class of the board.
 certificates: large ones are checked, reading included, and their instructions counted on a smaller
 file of the same kind. Two are read for a game that has no such points, and so refused.
 
+drawn: certificates that a seeded generator draws (bench/drawn.py) are checked, with a limit of
+instructions a byte for each. Their games have lines of several lengths.
+
 files: the largest game files are read. Others of as many lines and points are made by posgame
 itself, and then read. Unproved.
 """
@@ -30,6 +35,7 @@ import random
 import re
 from typing import Any, Callable, Iterable, Iterator, Optional
 
+import drawn as drawings
 import kit
 
 
@@ -380,6 +386,29 @@ def certificates(program: str, only: str) -> int:
     return table.end()
 
 
+# Certificates that are drawn, with the limit of instructions a byte.
+DRAWN = [
+    ("200,000 nodes of five kinds, 16 points", drawings.five_kinds, 55),
+    ("pairs, 256 points", drawings.pairs, 57),
+    ("`all` with 254 replies, 256 points", drawings.all_replies, 55),
+]
+
+
+def drawn(program: str, only: str) -> int:
+    """Measures checks of certificates that are drawn."""
+    table = kit.Table("certificate", "bytes", kit.Column("instructions a byte", ".1f"), "limit",
+                      kit.Column("s", ".2f"), "MB")
+    for name, make, limit in kit.named(only, DRAWN):
+        files, each = make(), None
+        done, size = checked(kit.run, program, *files)
+        if kit.has_valgrind():
+            each = checked(kit.count, program, *files)[0].instructions / size
+        wrong = [] if done.is_accepted else [done.said]
+        table.row(name, size, (each, limit) if each else None, limit, done.seconds, done.megabytes,
+                  wrong=wrong)
+    return table.end()
+
+
 # Files: lines of 20 points, and edges. Of each game its name, its text, and how posgame makes it.
 LARGE = [sorted({(number * 7 + step * 11) % 256 for step in range(20)}) for number in range(20_000)]
 EDGES = 500, [(number % 500, number * 7 % 500) for number in range(1_000)]
@@ -409,5 +438,5 @@ def files(program: str, only: str) -> int:
 
 if __name__ == "__main__":
     raise SystemExit(kit.call_part(
-        __doc__, "posgame", classes, searches, families, certificates, files,
+        __doc__, "posgame", classes, searches, families, certificates, drawn, files,
         only=("", "rows with this word in their name")))

@@ -22,7 +22,7 @@ bit_test-cleared a b j fit column =
     bit_test-and a (bit_not w64 b) j ∙ ap (λ t. bit_test a j && t) (bit_test-not b j fit column)
 
 -- a place of a row is a member where its bit is set
-member-at : (ws : List ℕ) (rows i j : ℕ)
+pub member-at : (ws : List ℕ) (rows i j : ℕ)
     → i < rows
     → j < 64
     → contains (members_below ws (64 * rows)) (64 * i + j) ≡ bit_test (get_or ws i 0) j
@@ -32,7 +32,7 @@ member-at ws rows i j row column = in_members_below ws (64 * rows) (64 * i + j)
     ∙ has_bit-at ws i j column
 
 -- members are below the rows' end
-member-below : (ws : List ℕ) (rows v : ℕ)
+pub member-below : (ws : List ℕ) (rows v : ℕ)
     → contains (members_below ws (64 * rows)) v ≡ true
     → v < 64 * rows
 member-below ws rows v on = elim (cases_lt v (64 * rows)) [

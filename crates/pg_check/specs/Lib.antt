@@ -1,4 +1,5 @@
 pub mod Prelude
+pub mod Masks
 pub mod Tester
 pub mod Lacked
 pub mod Marks

@@ -3,6 +3,7 @@ use Rattle.std.specs.Prelude.{◌≡◌, ℕ, ◌+◌, ◌*◌, ◌^◌, ◌<◌
 use Rattle.std.specs.Prelude.{slice_get, Some}
 use Rattle.pg_check.specs.Prelude.{FinSet, range_with_len, nat_cmp, AreWithin, other, members_below}
 use Rattle.pg_check.specs.Prelude.{Side, X, Game, Position, point_count, points_of, IsNoWorse}
+use Rattle.pg_check.specs.Prelude.{x_after, y_after, turn_after, left_after}
 use Rattle.pg_check.specs.declared.marks.Marks.{Marks}
 use Rattle.pg_check.specs.declared.marks.Turn.{Turn}
 
@@ -43,6 +44,16 @@ pub record AreMarksOf (g : Game) (m : Marks) : Type 0 where
 pub record HasTurnOf (p : Position) (t : Turn) : Type 0 where
   pub side : t.side ≡ p.turn
   pub left : t.left ≡ p.left
+
+-- the turn is the one after a move at p, where Y claims so many points a turn
+pub record IsTurnAfter (bias : ℕ) (p : Position) (t : Turn) : Type 0 where
+  pub side : t.side ≡ turn_after p
+  pub left : t.left ≡ left_after bias p
+
+-- q has the points of p and one more of the side to move
+pub record HavePointsAfter (p : Position) (v : ℕ) (q : Position) : Type 0 where
+  pub x : q.x ≡ x_after p.turn p.x v
+  pub y : q.y ≡ y_after p.turn p.y v
 
 -- the side has all its points of q, and the other side no others than there
 pub record KeepsPoints (side : Side) (q p : Position) : Type 0 where

@@ -31,11 +31,11 @@ pub use Rattle.pg_cert.specs.declared.node.Node.{Node}
 pub use Rattle.pg_cert.specs.declared.node_fault.NodeFault.{NodeFault}
 pub use Rattle.pg_cert.specs.declared.part.Part.{Part}
 pub use Rattle.pg_cert.specs.declared.reply.Reply.{Reply}
-pub use Rattle.pg_game.specs.Game.{IsPosition, after, has_filled, is_filled, is_over, lines_of}
-pub use Rattle.pg_game.specs.Game.{outcome, point_count, with_turn}
+pub use Rattle.pg_game.specs.Game.{IsPosition, after, has_filled, is_filled, is_full, is_over}
+pub use Rattle.pg_game.specs.Game.{is_touched, lines_of, outcome, point_count, with_turn}
 unfoldable pub use Rattle.pg_game.specs.Game.{free_points}
 pub use Rattle.pg_game.specs.Judge.{IsMadeForGame, room_of}
-pub use Rattle.pg_game.specs.Position.{is_free, points_of}
+pub use Rattle.pg_game.specs.Position.{is_free, left_after, points_of, turn_after, x_after, y_after}
 pub use Rattle.pg_game.specs.Potential.{is_on}
 pub use Rattle.pg_game.specs.Threat.{Filling, Forcing, IsAttack, IsThreatLine, LeadsToLine}
 pub use Rattle.pg_game.specs.Threat.{has_threat, is_near, may_attack, threatens}
@@ -44,7 +44,7 @@ pub use Rattle.pg_game.specs.Value.{Forces, reaches}
 pub use Rattle.pg_game.specs.Weaker.{IsNoWorse}
 pub use Rattle.pg_game.specs.declared.game.Game.{Game}
 pub use Rattle.pg_game.specs.declared.position.Position.{Position}
-pub use Rattle.std.specs.FinSet.{FinSet, contains, insert}
+pub use Rattle.std.specs.FinSet.{FinSet, contains, from_list, insert}
 pub use Rattle.std.specs.List.{All, Contains, count_by, filter, list_all, list_any, range_with_len}
 pub use Rattle.std.specs.Option.{is_some}
 pub use Rattle.std.specs.Ordering.{nat_cmp}

@@ -2,7 +2,9 @@
 -- that were checked.
 use Rattle.std.specs.Prelude.{◌≡◌, ℕ, ◌+◌, ◌<◌, ◌≤◌, length, map, take}
 use Rattle.pg_check.specs.Prelude.{ShareNone, Game, Position, with_turn, Claim, Node, Over}
-use Rattle.pg_check.specs.Prelude.{NodeFault, position_of, fault_number, Passes}
+use Rattle.pg_check.specs.Prelude.{NodeFault, position_of, fault_number, Passes, Body}
+use Rattle.pg_check.specs.Prelude.{HasTurn, TakesFree, FollowMoves, EndsRight, HasPairs}
+use Rattle.pg_check.specs.Prelude.{HasPotential, HasTrees, HasCuts, HasThreat, HasWeaker}
 use Rattle.pg_cert.specs.declared.node_fault.NodeFault.TheVariants as faults
 use Rattle.pg_check.specs.Marks.{kept}
 use Rattle.pg_check.specs.declared.present.Present.{Present}
@@ -30,6 +32,22 @@ PassesSoFar g c k n fault = Passes g (known c) k n fault
 -- the node owes nothing
 abbrev pub IsSoundSoFar : Game → Present → ℕ → Node → Type 0
 IsSoundSoFar g c k n = (fault : NodeFault) → PassesSoFar g c k n fault
+
+-- what the node says of moves and of the end is right, by what is known
+pub record AreMoves (g : Game) (c : Present) (p : Position) (body : Body) : Type 0 where
+  pub turn : HasTurn c.side p body
+  pub free : TakesFree g p body
+  pub follow : FollowMoves g (map bare (kept c.marks)) p body
+  pub ends : EndsRight g c.side c.goal p body
+
+-- and what it stands on holds
+pub record MeetsCriterion (g : Game) (c : Present) (p : Position) (body : Body) : Type 0 where
+  pub pairs : HasPairs g c.side p body
+  pub potential : HasPotential g c.side p body
+  pub trees : HasTrees g p body
+  pub cuts : HasCuts g p body
+  pub threat : HasThreat g c.side p body
+  pub weaker : HasWeaker (map bare (kept c.marks)) c.side p body
 
 -- the fault of least number
 pub record IsLeastSoFar (g : Game) (c : Present) (k : ℕ) (n : Node)

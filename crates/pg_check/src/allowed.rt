@@ -1,11 +1,11 @@
 //! Which bodies are allowed, and which nodes stand on the game's points.
-ghost use Rattle.std.specs.Prelude.{◌≡◌, ◌↔◌, IsTrue};
-ghost use Rattle.pg_check.specs.Prelude.{AreBelow, point_count, Game, is_allowed, shows_defence};
+ghost use Rattle.std.specs.Prelude.{◌≡◌, ◌≤◌, ◌↔◌, IsTrue, length};
+ghost use Rattle.pg_check.specs.Prelude.{AreBelow, point_count, is_allowed, shows_defence};
 ghost use Rattle.pg_check.specs.Prelude.{shows_trees, shows_cuts, pairs_fit, allows_weaker};
 ghost use Rattle.pg_check.specs.Prelude.{IsInGame};
-ghost use Rattle.pg_check.specs.Tester.{ArePointsOf};
+ghost use Rattle.pg_check.specs.Tester.{AreInside, ArePointsOf};
 
-use pg_base::{Goal, Kind, PointSet, Side};
+use pg_base::{Goal, Kind, MAX_MEMBERS, PointSet, Side};
 use pg_cert::{Body, Node};
 use pg_game::{Game, may_attack};
 
@@ -67,12 +67,33 @@ pub(crate) fn is_allowed(kind: Kind, bias: u8, side: Side, goal: Goal, body: &Bo
     }
 }
 
-/// Whether the marks are points of the game, all given.
-fn are_points(points: &PointSet, marks: &PointSet) -> bool
-    ensures { (g : Game) → ArePointsOf points.now g
-        → IsTrue result ↔ AreBelow marks.now (point_count g) }
+/// The bits of the first rows and of the second ones that the third ones lack.
+fn bits_outside(first: &[u64], second: &[u64], inside: &[u64]) -> u64
+    requires first { 16 ≤ length first.now }
+    requires second { 16 ≤ length second.now }
+    requires inside { 16 ≤ length inside.now }
+    ensures each { result ≡ 0 → AreInside first.now second.now inside.now 16 }
+    ensures none { AreInside first.now second.now inside.now 16 → result ≡ 0 }
 {
-    marks.is_subset(points)
+    let mut outside = 0;
+    for i in 0..16 {
+        outside |= (first[i] & !inside[i]) | (second[i] & !inside[i]);
+    }
+    outside
+}
+
+/// Whether the marks of both sides are points of the game, all given. They are looked at row by
+/// row, without a way out between.
+fn are_points(points: &PointSet, g: &Game, x: &PointSet, y: &PointSet) -> bool
+    requires { ArePointsOf points.now g.now }
+    ensures { IsTrue result
+        ↔ (AreBelow x.now (point_count g.now) × AreBelow y.now (point_count g.now)) }
+{
+    let _count = g.points();
+    if !x.is_below(MAX_MEMBERS) || !y.is_below(MAX_MEMBERS) {
+        return false;
+    }
+    bits_outside(x.words(), y.words(), points.words()) == 0
 }
 
 /// Whether the node's marks are points of the game, all given, and its side claims no more
@@ -81,5 +102,5 @@ pub(crate) fn is_in_game(points: &PointSet, g: &Game, node: &Node) -> bool
     requires { ArePointsOf points.now g.now }
     ensures { IsTrue result ↔ IsInGame g.now node.now }
 {
-    are_points(points, &node.x) && are_points(points, &node.y) && node.left <= g.bias_of(node.turn)
+    are_points(points, g, &node.x, &node.y) && node.left <= g.bias_of(node.turn)
 }

@@ -1,11 +1,13 @@
 //! The positions of nodes that have been checked, in few words.
 ghost use Rattle.std.specs.Prelude.{◌≡◌, ◌++◌, ◌∷◌, ◌*◌, ◌^◌, ◌<◌, ◌≤◌, ℕ, [], ◌↔◌, IsTrue, IfOk};
 ghost use Rattle.std.specs.Prelude.{Some, get_or, length, slice_get};
-ghost use Rattle.pg_check.specs.Prelude.{AreBelow, AreWithin, members_below};
+ghost use Rattle.pg_check.specs.Prelude.{AreBelow, AreWithin, after, insert, members_below};
+ghost use Rattle.pg_check.specs.Prelude.{x_after, y_after};
 ghost use Rattle.pg_check.specs.Marks.{set_at, no_turn, position_at, kept, HasTurnOf, AreFlat};
-ghost use Rattle.pg_check.specs.Marks.{AreMarksOf, KeepsPoints, IsNoWorseThanKept};
+ghost use Rattle.pg_check.specs.Marks.{AreMarksOf, HavePointsAfter, IsTurnAfter, KeepsPoints};
+ghost use Rattle.pg_check.specs.Marks.{IsNoWorseThanKept};
 
-use pg_base::{Memory, PointSet, Side};
+use pg_base::{MAX_MEMBERS, Memory, PointSet, Side};
 use pg_game::{Game, Position};
 use std::alloc::Global;
 
@@ -78,6 +80,20 @@ impl Marks {
         words == &set.words()[..self.width]
     }
 
+    /// Whether the set of this row is that one with the point put into it.
+    fn has_more(&self, row: usize, set: &PointSet, v: u16) -> bool
+        requires flat { AreFlat self.now }
+        requires row { row < 2 * length self.now.turns.items }
+        requires small { v < MAX_MEMBERS }
+        requires below { AreBelow (insert set.now v) (64 * self.now.width) }
+        ensures { IsTrue result
+            ↔ (set_at self.now.words.items self.now.width row ≡ insert set.now v) }
+    {
+        let mut more = *set;
+        more.put(v);
+        self.has_set(row, &more)
+    }
+
     /// Whether each point of this row's set is in that one.
     fn is_within(&self, row: usize, set: &PointSet) -> bool
         requires flat { AreFlat self.now }
@@ -127,6 +143,20 @@ impl Marks {
         turn.side.is_same(p.turn) && turn.left == p.left
     }
 
+    /// Whether in the position of this number the turn is the one after a move at p.
+    fn has_next_turn(&self, k: usize, g: &Game, p: &Position) -> bool
+        requires { k < length self.now.turns.items }
+        ensures { IsTrue result
+            ↔ IsTurnAfter g.now.bias p.now (get_or self.now.turns.items k no_turn) }
+    {
+        let turn = self.turns[k];
+        if p.left > 1 {
+            return turn.left == p.left - 1 && turn.side.is_same(p.turn);
+        }
+        let next = p.turn.other();
+        turn.side.is_same(next) && turn.left == g.bias_of(next)
+    }
+
     /// Whether there is a position of this number, and p is no worse for the side.
     pub(crate) fn is_no_worse(&self, side: Side, k: u32, p: &Position) -> bool
         requires flat { AreFlat self.now }
@@ -144,21 +174,41 @@ impl Marks {
         self.keeps_points(side, k, p)
     }
 
-    /// Whether there is a position of this number, and it is that one.
-    pub(crate) fn is_at(&self, k: u32, p: &Position) -> bool
+    /// Whether the position of this number has the points of p with one put to those of the side to
+    /// move.
+    fn has_points_after(&self, k: usize, p: &Position, v: u16) -> bool
         requires flat { AreFlat self.now }
-        requires x { AreBelow p.now.x (64 * self.now.width) }
-        requires y { AreBelow p.now.y (64 * self.now.width) }
-        ensures { IsTrue result ↔ (slice_get (kept self.now) k ≡ Some p.now) }
+        requires place { k < length self.now.turns.items }
+        requires small { v < MAX_MEMBERS }
+        requires x { AreBelow (x_after p.now.turn p.now.x v) (64 * self.now.width) }
+        requires y { AreBelow (y_after p.now.turn p.now.y v) (64 * self.now.width) }
+        ensures { IsTrue result
+            ↔ HavePointsAfter p.now v
+            (position_at self.now.words.items self.now.width self.now.turns.items k) }
+    {
+        match p.turn {
+            Side::X => self.has_more(2 * k, &p.x, v) && self.has_set(2 * k + 1, &p.y),
+            Side::Y => self.has_set(2 * k, &p.x) && self.has_more(2 * k + 1, &p.y, v),
+        }
+    }
+
+    /// Whether there is a position of this number, and it is the one after the side to move at p
+    /// takes the point.
+    pub(crate) fn is_after(&self, k: u32, g: &Game, p: &Position, v: u16) -> bool
+        requires flat { AreFlat self.now }
+        requires small { v < MAX_MEMBERS }
+        requires x { AreBelow (x_after p.now.turn p.now.x v) (64 * self.now.width) }
+        requires y { AreBelow (y_after p.now.turn p.now.y v) (64 * self.now.width) }
+        ensures { IsTrue result ↔ (slice_get (kept self.now) k ≡ Some (after g.now p.now v)) }
     {
         let k = k as usize;
         if k >= self.turns.len() {
             return false;
         }
-        if !self.has_turn(k, p) {
+        if !self.has_next_turn(k, g, p) {
             return false;
         }
-        self.has_set(2 * k, &p.x) && self.has_set(2 * k + 1, &p.y)
+        self.has_points_after(k, p, v)
     }
 
     /// Keeps one position more.

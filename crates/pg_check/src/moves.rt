@@ -2,12 +2,13 @@
 ghost use Rattle.std.specs.Prelude.{◌≡◌, ◌*◌, ◌<◌, map, true, ◌↔◌, IsTrue};
 ghost use Rattle.pg_check.specs.Prelude.{All, NamesEarlier, IsNodeOf, FollowsMove, FollowMoves};
 ghost use Rattle.pg_check.specs.Prelude.{HasTurn, TakesFree, HasWeaker, AreBelow, point_count};
-ghost use Rattle.pg_check.specs.Prelude.{free_points, IsPosition, is_free};
+ghost use Rattle.pg_check.specs.Prelude.{free_points, IsPosition, is_free, after};
+ghost use Rattle.pg_check.specs.Prelude.{x_after, y_after};
 ghost use Rattle.pg_check.specs.Marks.{kept, AreFlat, AreMarksOf};
 ghost use Rattle.pg_check.specs.Present.{bare};
 
 use crate::marks::Marks;
-use pg_base::Side;
+use pg_base::{MAX_MEMBERS, Side};
 use pg_cert::{Body, Reply};
 use pg_game::{Game, Position};
 
@@ -44,14 +45,17 @@ pub(crate) fn has_weaker(marks: &Marks, side: Side, p: &Position, body: &Body) -
     marks.is_no_worse(side, *child, p)
 }
 
-/// Whether a node of that number has been checked and has the position.
-fn is_node_of(marks: &Marks, child: u32, q: &Position) -> bool
+/// Whether a node of that number has been checked and has the position after the side to move takes
+/// the point.
+fn is_node_after(g: &Game, marks: &Marks, p: &Position, point: u16, child: u32) -> bool
     requires flat { AreFlat marks.now }
-    requires x { AreBelow q.now.x (64 * marks.now.width) }
-    requires y { AreBelow q.now.y (64 * marks.now.width) }
-    ensures { IsTrue result ↔ IsNodeOf (map bare (kept marks.now)) child q.now }
+    requires small { point < MAX_MEMBERS }
+    requires x { AreBelow (x_after p.now.turn p.now.x point) (64 * marks.now.width) }
+    requires y { AreBelow (y_after p.now.turn p.now.y point) (64 * marks.now.width) }
+    ensures { IsTrue result
+        ↔ IsNodeOf (map bare (kept marks.now)) child (after g.now p.now point) }
 {
-    marks.is_at(child, q)
+    marks.is_after(child, g, p, point)
 }
 
 /// Whether the child has the position after the move, where the point is free.
@@ -66,7 +70,7 @@ fn follows_move(g: &Game, marks: &Marks, p: &Position, point: u16, child: u32) -
     if !p.is_free(point) {
         return true;
     }
-    is_node_of(marks, child, &g.after(p, point))
+    is_node_after(g, marks, p, point, child)
 }
 
 /// Whether the children of all free points have the positions after them.

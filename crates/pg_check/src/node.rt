@@ -1,11 +1,11 @@
 //! One node against the table of faults.
 ghost use Rattle.std.specs.Prelude.{◌≡◌, ◌<◌, ◌≤◌, ◌+◌, ◌↔◌, IsTrue, IfSome, IfNone, Some, true};
-ghost use Rattle.pg_check.specs.Prelude.{IsMadeForGame, IsPosition, is_over, outcome, with_turn};
-ghost use Rattle.pg_check.specs.Prelude.{reaches, IsInGame, IsOwed, EndsRight};
+ghost use Rattle.pg_check.specs.Prelude.{IsPosition, is_over, outcome, with_turn};
+ghost use Rattle.pg_check.specs.Prelude.{reaches, IsInGame, IsOwed, EndsRight, is_allowed};
 ghost use Rattle.pg_check.specs.Tester.{ArePointsOf, IsReadyFor};
 ghost use Rattle.pg_check.specs.Marks.{AreMarksOf};
 ghost use Rattle.pg_check.specs.Present.{HasPosition, PassesSoFar, IsSoundSoFar, IsLeastSoFar};
-ghost use Rattle.pg_check.specs.Present.{known};
+ghost use Rattle.pg_check.specs.Present.{known, AreMoves, MeetsCriterion};
 
 use crate::allowed::{is_allowed, is_in_game};
 use crate::leaves::{has_cuts, has_pairs, has_potential, has_threat, has_trees};
@@ -14,7 +14,7 @@ use crate::present::Present;
 use crate::tester::Tester;
 use pg_base::{Goal, PointSet, Side};
 use pg_cert::{Body, Node, NodeFault};
-use pg_game::{Game, Judge, Position, reaches};
+use pg_game::{Game, Position, reaches};
 
 /// Whether more than its marks, its children and its place is asked of the node.
 fn is_owed(points: &PointSet, g: &Game, claim: &Present, node: &Node) -> bool
@@ -38,14 +38,14 @@ fn is_seen_in_game(points: &PointSet, g: &Game, claim: &Present, node: &Node, ow
 }
 
 /// Whether the game is over with the goal reached.
-fn is_won(judge: &mut Judge, g: &Game, side: Side, goal: Goal, p: &Position) -> bool
-    requires made { IsMadeForGame judge.old g.now }
+fn is_won(tester: &mut Tester, g: &Game, side: Side, goal: Goal, p: &Position) -> bool
+    requires made { IsReadyFor tester.old g.now }
     requires position { IsPosition g.now p.now }
     ensures won { IsTrue result
         ↔ ((is_over g.now p.now ≡ true) × (reaches side goal (outcome g.now p.now) ≡ true)) }
-    ensures kept { judge.new ≡ judge.old }
+    ensures kept { tester.new ≡ tester.old }
 {
-    match judge.over(g, p) {
+    match tester.over(g, p) {
         Some(score) => reaches(side, goal, score),
         None => false,
     }
@@ -54,21 +54,21 @@ fn is_won(judge: &mut Judge, g: &Game, side: Side, goal: Goal, p: &Position) -> 
 /// Whether the game is over where the body says so, with the goal reached, and isn't where the body
 /// moves on.
 fn ends_right(
-    judge: &mut Judge,
+    tester: &mut Tester,
     g: &Game,
     side: Side,
     goal: Goal,
     p: &Position,
     body: &Body,
 ) -> bool
-    requires made { IsMadeForGame judge.old g.now }
+    requires made { IsReadyFor tester.old g.now }
     requires position { IsPosition g.now p.now }
     ensures ends { IsTrue result ↔ EndsRight g.now side goal p.now body.now }
-    ensures kept { judge.new ≡ judge.old }
+    ensures kept { tester.new ≡ tester.old }
 {
     match body {
-        Body::Over => is_won(judge, g, side, goal, p),
-        Body::Move { .. } | Body::All(_) => judge.over(g, p).is_none(),
+        Body::Over => is_won(tester, g, side, goal, p),
+        Body::Move { .. } | Body::All(_) => tester.over(g, p).is_none(),
         _ => true,
     }
 }
@@ -128,11 +128,9 @@ fn passes(
         }
         NodeFault::Turn => !owed || has_turn(claim.side, p, &node.body),
         NodeFault::Moves => !owed || takes_free(g, p, &node.body),
-        NodeFault::End => {
-            !owed || ends_right(&mut tester.judge, g, claim.side, claim.goal, p, &node.body)
-        }
+        NodeFault::End => { !owed || ends_right(tester, g, claim.side, claim.goal, p, &node.body) }
         NodeFault::Pairs => !owed || has_pairs(g, claim.side, p, &node.body),
-        NodeFault::Potential => !owed || has_potential(g, claim.side, p, &node.body),
+        NodeFault::Potential => !owed || has_potential(&tester.masks, g, claim.side, p, &node.body),
         NodeFault::Trees => !owed || has_trees(&mut tester.joiner, g, p, &node.body),
         NodeFault::Cuts => !owed || has_cuts(&mut tester.joiner, g, p, &node.body),
         NodeFault::Threat => !owed || has_threat(&mut tester.judge, g, claim.side, p, &node.body),
@@ -144,6 +142,76 @@ fn passes(
                 || has_weaker(&claim.marks, claim.side, p, &node.body)
         }
     }
+}
+
+/// Whether the body moves on as it should, and ends the game where it says so.
+fn moves_right(tester: &mut Tester, g: &Game, claim: &Present, p: &Position, body: &Body) -> bool
+    requires made { IsReadyFor tester.old g.now }
+    requires kept { AreMarksOf g.now claim.now.marks }
+    requires position { IsPosition g.now p.now }
+    ensures moves { IsTrue result → AreMoves g.now claim.now p.now body.now }
+    ensures kept { tester.new ≡ tester.old }
+{
+    if !has_turn(claim.side, p, body) || !takes_free(g, p, body) {
+        return false;
+    }
+    if !follow_moves(g, &claim.marks, p, body) {
+        return false;
+    }
+    ends_right(tester, g, claim.side, claim.goal, p, body)
+}
+
+/// Whether the body meets its criterion, if it stands on one.
+fn stands_right(tester: &mut Tester, g: &Game, claim: &Present, p: &Position, body: &Body) -> bool
+    requires made { IsReadyFor tester.old g.now }
+    requires kept { AreMarksOf g.now claim.now.marks }
+    requires position { IsPosition g.now p.now }
+    requires allowed { is_allowed g.now.kind g.now.bias claim.now.side claim.now.goal body.now
+        ≡ true }
+    ensures stands { IsTrue result → MeetsCriterion g.now claim.now p.now body.now }
+    ensures kept { tester.new ≡ tester.old }
+{
+    if !has_pairs(g, claim.side, p, body) || !has_potential(&tester.masks, g, claim.side, p, body) {
+        return false;
+    }
+    if !has_trees(&mut tester.joiner, g, p, body) {
+        return false;
+    }
+    if !has_cuts(&mut tester.joiner, g, p, body) {
+        return false;
+    }
+    if !has_threat(&mut tester.judge, g, claim.side, p, body) {
+        return false;
+    }
+    has_weaker(&claim.marks, claim.side, p, body)
+}
+
+/// Whether the node is found to owe nothing, each test being made once. Where it isn't, the faults
+/// are gone through by their numbers.
+fn is_sound(tester: &mut Tester, g: &Game, claim: &Present, k: usize, seen: &Seen<'_>) -> bool
+    requires made { IsReadyFor tester.old g.now }
+    requires kept { AreMarksOf g.now claim.now.marks }
+    requires place { k < claim.now.count }
+    requires position { HasPosition seen.now.node.now seen.now.position.now }
+    requires owed { IsTrue seen.now.owed ↔ IsOwed g.now (known claim.now) seen.now.node.now }
+    ensures sound { IsTrue result → IsSoundSoFar g.now claim.now k seen.now.node.now }
+    ensures kept { tester.new ≡ tester.old }
+{
+    let Seen {
+        node,
+        position: p,
+        owed,
+    } = *seen;
+    if !owed || !names_earlier(k, &node.body) {
+        return false;
+    }
+    if !moves_right(tester, g, claim, p, &node.body) {
+        return false;
+    }
+    if !stands_right(tester, g, claim, p, &node.body) {
+        return false;
+    }
+    is_root(g, claim, k, p)
 }
 
 /// The least fault of the node, which has the position, or none where it owes nothing.
@@ -168,6 +236,9 @@ pub(crate) fn first_fault(
         position: p,
         owed: is_owed(&tester.points, g, claim, node),
     };
+    if is_sound(tester, g, claim, k, &seen) {
+        return None;
+    }
     for fault in [
         NodeFault::Child,
         NodeFault::Marks,
