@@ -120,7 +120,7 @@ two-counted test line s h =
     (Contains-filter test line s.b h.second h.second_passes) h.lower in
     omega (arith, two, length-filter test line)
 
-none-counted : {X : Type 0} (t : X → Bool) (xs : List X)
+pub none-counted : {X : Type 0} (t : X → Bool) (xs : List X)
     → ((x : X) → Contains xs x → t x ≡ false)
     → count_by t xs ≡ 0
 none-counted t [] each = refl

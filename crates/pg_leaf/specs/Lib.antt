@@ -1,5 +1,6 @@
 pub mod Prelude
 pub mod At
+pub mod Ahead
 pub mod Leaf
 pub mod Order
 pub mod Sound

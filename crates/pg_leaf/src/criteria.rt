@@ -17,7 +17,7 @@ use pg_threat::{ThreatLine, forced};
 use std::alloc::Global;
 
 /// The answer that a side's criterion gives: yes for X.
-fn answer_for(side: Side) -> bool
+pub(crate) fn answer_for(side: Side) -> bool
     ensures { result ≡ answer_for side }
 {
     match side {

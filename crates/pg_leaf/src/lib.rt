@@ -3,11 +3,13 @@
 //! reach.
 #![tactic(auto)]
 
+mod ahead;
 mod criteria;
 mod marks;
 mod order;
 mod pruning;
 
+pub use ahead::{Ahead, Told};
 pub use criteria::leaf;
 pub use order::order_of;
 pub use pruning::prune;

@@ -8,6 +8,7 @@ pub mod Spreading
 pub mod Closing
 pub mod TableLaws
 pub mod Growing
+pub mod Foretold
 pub mod Meeting
 pub mod Searching
 pub mod Settling

@@ -1,8 +1,10 @@
 -- What a search is asked, and what it reads the answers of criteria from.
-use Rattle.std.specs.Prelude.{◌≡◌, ◌≢◌, ◌<◌, ◌≤◌, ◌*◌, ℕ, length, true}
+use Rattle.std.specs.Prelude.{◌≡◌, ◌≢◌, ◌<◌, ◌≤◌, ◌*◌, ℕ, length, true, false}
 use Rattle.pg_pns.specs.Prelude.{Cache, Fits, Game, IsAt, IsPosition, IsQuestion, MAX_CLAIM_NODES}
 use Rattle.pg_pns.specs.Prelude.{Position, Score, Switching, View, free_points, is_free, lines_of}
-use Rattle.pg_pns.specs.Prelude.{point_count, start}
+use Rattle.pg_pns.specs.Prelude.{is_over, point_count, start}
+use Rattle.pg_leaf.specs.Ahead.{IsAhead}
+use Rattle.pg_pns.specs.declared.table.Expansion.{Expansion}
 use Rattle.pg_pns.specs.declared.limits.TheConstants.{MAX_EXPANDED_MOVES}
 use Rattle.pg_pns.specs.Descent.{IsAtStart}
 
@@ -40,3 +42,10 @@ pub record IsKept (g : Game) (old new : View) (cache : Cache) : Type 0 where
 pub record IsMoveAt (g : Game) (p : Position) (v : ℕ) : Type 0 where
   pub point : v < point_count g
   pub free : is_free p v ≡ true
+
+-- a position that is expanded and isn't decided, at which the board stands, with its weights
+pub record IsExpansion (g : Game) (t : Score) (e : Expansion) (b : View)
+    (cache : Cache) : Type 0 where
+  pub reads : IsReadAt g t e.position b cache
+  pub going : is_over g e.position ≡ false
+  pub ahead : IsAhead t b e.ahead

@@ -8,7 +8,8 @@ ghost use Rattle.pg_game.specs.Decided.{claimer as claimer_of, claimed_goal as c
 ghost use Rattle.pg_pns.specs.Found.{IsAnswer};
 ghost use Rattle.pg_pns.specs.Descent.{IsAtStart};
 ghost use Rattle.pg_pns.specs.Known.{answer_at};
-ghost use Rattle.pg_pns.specs.Reading.{IsAskedOf, IsKept, IsMoveAt, IsReadAt, IsReadAtStart};
+ghost use Rattle.pg_pns.specs.Reading.{IsAskedOf, IsExpansion, IsKept, IsMoveAt, IsReadAt};
+ghost use Rattle.pg_pns.specs.Reading.{IsReadAtStart};
 ghost use Rattle.pg_pns.specs.Search.{IsSearch, CanGoOn, CanGrow, GoesOn, IsGrowing, IsListed};
 ghost use Rattle.pg_pns.specs.Search.{IsRootFound};
 ghost use Rattle.pg_pns.specs.declared.limits.TheConstants.{MAX_EXPANDED_MOVES};
@@ -19,24 +20,16 @@ use crate::guide::Guide;
 use crate::known::Answered;
 use crate::lists::{Moves, Places};
 use crate::settle::settle_from;
-use crate::table::{Table, meet_after};
+use crate::table::{Expansion, Table, meet_after};
 use crate::work::Found;
 use indexmap::IndexMap;
 use pg_base::{Goal, Kind, Memory, Score, Side};
 use pg_board::Board;
 use pg_cert::{Claim, Nodes};
 use pg_game::Position;
-use pg_leaf::{order_of, prune};
+use pg_leaf::{Ahead, leaf, order_of, prune};
 use pg_match::PairCache;
 use std::alloc::Global;
-
-/// A position that is expanded, with its place and its moves that are met so far.
-#[derive(Debug, Drop)]
-struct Expansion {
-    place: u32,
-    position: Position,
-    nexts: Moves,
-}
 
 /// Adds a place before the place.
 fn add_parent(parents: &mut [Places], place: u32, k: u32) -> Result<(), Memory>
@@ -59,8 +52,7 @@ fn meet_move(
     table: &mut Table,
     expansion: &mut Expansion,
 ) -> Result<(), Memory>
-    requires reads { IsReadAt asked.game.now asked.question expansion.old.position board.old
-        cache.old }
+    requires reads { IsExpansion asked.game.now asked.question expansion.old board.old cache.old }
     requires moves { IsMoveAt asked.game.now expansion.old.position v }
     requires few { length table.old.positions.items < 2 ^ 32 }
     requires grows { (list : List Position)
@@ -68,14 +60,15 @@ fn meet_move(
         table.old expansion.old.nexts }
     ensures kept { IsKept asked.entry.game.now board.old board.new cache.new }
     ensures same { (expansion.new.place ≡ expansion.old.place)
-        × (expansion.new.position ≡ expansion.old.position) }
+        × (expansion.new.position ≡ expansion.old.position)
+        × (expansion.new.ahead ≡ expansion.old.ahead) }
     ensures grows { OnOk result
         ((list : List Position) → IsGrowing asked.entry.game.now asked.entry.question list
         expansion.old.place expansion.old.position v table.old expansion.old.nexts
         → IsGrowing asked.entry.game.now asked.entry.question list expansion.new.place
         expansion.new.position (v + 1) table.new expansion.new.nexts) }
 {
-    let place = meet_after(alloc, asked, &expansion.position, v, board, cache, table)?;
+    let place = meet_after(alloc, asked, expansion, v, board, cache, table)?;
     add_parent(table.parents.as_mut_slice(), place, expansion.place)?;
     expansion.nexts.push(v, place)?;
     Ok(())
@@ -106,6 +99,7 @@ fn expand(
     let mut expansion = Expansion {
         place: k,
         position: p,
+        ahead: Ahead::look(board, asked.question, &p),
         nexts: Moves::new(alloc),
     };
     for v in 0..asked.game.points() {
@@ -117,6 +111,7 @@ fn expand(
     let Expansion {
         place: _place,
         position: _position,
+        ahead: _ahead,
         nexts,
     } = expansion;
     table.moves.as_mut_slice()[k as usize] = nexts;
@@ -312,7 +307,9 @@ fn first_table(
         (λ table. IsSearch asked.entry.game.now asked.entry.question [] [] table) }
 {
     let mut table = Table::new(alloc);
-    table.add(alloc, asked, asked.game.start(), board, cache)?;
+    let root = asked.game.start();
+    let found = leaf(alloc, asked.game, asked.question, &root, board, cache)?;
+    table.add(alloc, asked, root, found)?;
     Ok(table)
 }
 

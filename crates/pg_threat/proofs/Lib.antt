@@ -1,7 +1,7 @@
 mod Common
 mod Walks
 pub mod Boards
-mod LineCounts
+pub mod LineCounts
 mod Scans
 mod Attacks
 mod Searching

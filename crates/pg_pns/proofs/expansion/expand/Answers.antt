@@ -1,8 +1,10 @@
 use Rattle.std.proofs.Common.{◌≡◌, ◌∙◌, ◌<◌, ◌++◌, ◌∷◌, [], ℕ, List, slice_get, slice_set, get_or}
-use Rattle.std.proofs.Common.{length, refl, sym, ap, subst, arith}
+use Rattle.std.proofs.Common.{length, refl, sym, ap, subst, arith, false}
 use Rattle.pg_pns.proofs.Common.{slice_get_within, slice_get_read, with_items_is, length-set}
 use Rattle.pg_pns.proofs.Common.{with_items, Position, Game, Score, IsPosition, point_count, View}
-use Rattle.pg_pns.proofs.Common.{IsAt, one_at}
+use Rattle.pg_pns.proofs.Common.{IsAt, is_over, one_at, undecided-going}
+use Rattle.pg_leaf.specs.Ahead.{IsAhead}
+use Rattle.pg_leaf.specs.declared.ahead.Ahead.{Ahead}
 use Rattle.pg_pns.specs.declared.table.Table.{Table}
 use Rattle.pg_pns.specs.Search.{CanGrow, IsGrowing, IsSearch}
 use Rattle.pg_pns.proofs.Moving.{growing-start, growing-taken}
@@ -18,6 +20,17 @@ read-same g t list s k p r c is = one_at s.positions.items k p r c.at
     (slice_get_read s.positions.items (length s.positions.items) k r refl
     (slice_get_within s.positions.items k p c.at) is)
 
+pub look-requires : goal.look-requires
+look-requires c =
+    let can = c.requires.grows in
+    let reads = c.requires.reads can.1 can.2.at in
+    sym
+    (reads.stands.position
+    ∙ read-same c.args.asked.game.now c.args.asked.question can.0 c.args.table.now c.args.k can.1
+    c.index-positions-k.result can.2 (c.index-positions-k.is ∙ ap
+    (λ (qs : List Position). get_or qs c.args.k c.index-positions-k.result)
+    c.as_slice-positions.ensures.value))
+
 pub loop-v-init : goal.loop-v-init
 loop-v-init c = (
   record {
@@ -28,6 +41,7 @@ loop-v-init c = (
   c.index-positions-k.is ∙ ap
       (λ (qs : List Position). get_or qs c.args.k c.index-positions-k.result)
       c.as_slice-positions.ensures.value,
+  c.look.ensures,
   λ list p can. subst
       (λ (ns : List (ℕ × ℕ)). IsGrowing c.args.asked.game.now c.args.asked.question list c.args.k
       c.index-positions-k.result 0 c.args.table.now ns) (sym c.new.ensures)
@@ -44,7 +58,7 @@ loop-v-init c = (
 pub bounds-as_mut_slice-k : goal.bounds-as_mut_slice-k
 bounds-as_mut_slice-k c =
     let can = c.requires.grows in
-    let is = c.loop-v.invariant.3 can.0 can.1 can.2 in
+    let is = c.loop-v.invariant.4 can.0 can.1 can.2 in
     subst (λ (ms : List (List (ℕ × ℕ))). c.args.k < length ms) (sym c.as_mut_slice.ensures.value)
     (slice_get_within c.loop-v.table.moves.items c.args.k []
     (ap (slice_get c.loop-v.table.moves.items) (sym c.loop-v.invariant.1) ∙ is.bare))
@@ -64,7 +78,7 @@ returns-clause-grows c =
     c.loop-v.expansion.nexts) c.loop-v.invariant.1
     (subst (λ (n : ℕ). IsGrowing c.args.asked.game.now c.args.asked.question list
     c.loop-v.expansion.place c.loop-v.expansion.position n c.loop-v.table c.loop-v.expansion.nexts)
-    count (c.loop-v.invariant.3 list p can)) in
+    count (c.loop-v.invariant.4 list p can)) in
     let same = read-same c.args.asked.game.now c.args.asked.question list c.args.table.now
     c.args.k p c.loop-v.expansion.position can c.loop-v.invariant.2 in
     let new : Table = record {
@@ -89,10 +103,11 @@ loop-v-preserved-then-not-is_free c = (
   c.loop-v.invariant.0,
   c.loop-v.invariant.1,
   c.loop-v.invariant.2,
+  c.loop-v.invariant.3,
   λ list p can. growing-taken c.args.asked.game.now c.args.asked.question list
       c.loop-v.expansion.place c.loop-v.expansion.position c.loop-v.v c.loop-v.table
       c.loop-v.expansion.nexts (sym c.is_free.ensures ∙ c.if-not-is_free.true)
-      (c.loop-v.invariant.3 list p can),
+      (c.loop-v.invariant.4 list p can),
 )
 
 pub meet_move-requires-clause-reads : goal.meet_move-requires-clause-reads
@@ -103,20 +118,26 @@ meet_move-requires-clause-reads c =
     read-same c.args.asked.game.now c.args.asked.question can.0 c.args.table.now c.args.k can.1
     c.loop-v.expansion.position can.2 c.loop-v.invariant.2 in
     record {
-      asked = reads.asked;
-      position =
-          subst (λ (q : Position). IsPosition c.args.asked.game.now q) same reads.position;
-      stands = subst (λ (b : View). IsAt c.args.asked.game.now c.loop-v.expansion.position b)
-          (sym c.loop-v.invariant.0.same)
-          (subst (λ (q : Position). IsAt c.args.asked.game.now q c.args.board.now) same
-          reads.stands);
-      fits = c.loop-v.invariant.0.fits;
+      reads = record {
+        asked = reads.asked;
+        position =
+            subst (λ (q : Position). IsPosition c.args.asked.game.now q) same reads.position;
+        stands = subst (λ (b : View). IsAt c.args.asked.game.now c.loop-v.expansion.position b)
+            (sym c.loop-v.invariant.0.same)
+            (subst (λ (q : Position). IsAt c.args.asked.game.now q c.args.board.now) same
+            reads.stands);
+        fits = c.loop-v.invariant.0.fits;
+      };
+      going = subst (λ (q : Position). is_over c.args.asked.game.now q ≡ false) same
+          (undecided-going c.args.asked.game.now c.args.asked.question can.1 can.2.undecided);
+      ahead = subst (λ (b : View). IsAhead c.args.asked.question b c.loop-v.expansion.ahead)
+          (sym c.loop-v.invariant.0.same) c.loop-v.invariant.3;
     }
 
 pub meet_move-requires-clause-grows : goal.meet_move-requires-clause-grows
 meet_move-requires-clause-grows c =
     let can = c.requires.grows in
-    (can.0, c.loop-v.invariant.3 can.0 can.1 can.2)
+    (can.0, c.loop-v.invariant.4 can.0 can.1 can.2)
 
 pub loop-v-preserved : goal.loop-v-preserved
 loop-v-preserved c = (
@@ -127,5 +148,7 @@ loop-v-preserved c = (
   c.in_ok-meet_move.ensures.same.0 ∙ c.loop-v.invariant.1,
   subst (λ (q : Position). q ≡ get_or c.args.table.now.positions.items c.args.k q)
       (sym c.in_ok-meet_move.ensures.same.1) c.loop-v.invariant.2,
-  λ list p can. c.in_ok-meet_move.ensures.grows list (c.loop-v.invariant.3 list p can),
+  subst (λ (a : Ahead). IsAhead c.args.asked.question c.args.board.now a)
+      (sym c.in_ok-meet_move.ensures.same.2) c.loop-v.invariant.3,
+  λ list p can. c.in_ok-meet_move.ensures.grows list (c.loop-v.invariant.4 list p can),
 )

@@ -1,0 +1,243 @@
+//! What the counts of a board tell of the positions after a move.
+ghost use Rattle.std.specs.Prelude.{◌≡◌, ◌<◌, ◌≤◌, ◌+◌, ℕ, length, true, false, IfSome};
+ghost use Rattle.pg_leaf.specs.Prelude.{Position, Score, Switching, after, attack_wins, defender};
+ghost use Rattle.pg_leaf.specs.Prelude.{defends, free_points, is_over, IsQuestion, pairs_exist};
+ghost use Rattle.pg_leaf.specs.Prelude.{point_count, points_of, MAX_POINTS};
+ghost use Rattle.pg_base.specs.Side.{is_same_side};
+ghost use Rattle.pg_board.specs.Board.{degree};
+ghost use Rattle.pg_game.specs.Potential.{total_weight};
+ghost use Rattle.pg_game.specs.Threat.{is_race};
+ghost use Rattle.pg_leaf.specs.Ahead.{base_for, is_avoiding, IsAhead, IsMoveOf, IsTold};
+ghost use Rattle.pg_leaf.specs.Ahead.{IsWeighed};
+
+use crate::criteria::answer_for;
+use pg_base::{Kind, Score, Side};
+use pg_board::Board;
+use pg_cert::Body;
+use pg_game::{
+    Position, Weights, breaker_of, defender, full_weight, may_attack, weigh, x_takes_last,
+};
+
+/// The weights of the lines at a position, for the potential that speaks to a question.
+#[derive(Debug, Drop)]
+pub struct Ahead {
+    /// The side that defends.
+    pub defender: Side,
+    /// The side whose points make a line harmless.
+    pub breaker: Side,
+    /// The base of the weights.
+    pub base: u128,
+    /// What the total must stay below.
+    pub limit: u128,
+    /// The total, and the weight of each point.
+    pub weights: Weights,
+}
+
+/// What is told of the position after a move.
+#[derive(Debug, Drop)]
+pub enum Told {
+    /// Nothing.
+    Unsure,
+    /// No criterion decides it.
+    Open,
+    /// The first criterion that applies decides it: the answer, and the body that shows it.
+    Decided(bool, Body),
+}
+
+/// The base of the weights in a game of the kind in which Y claims `bias` points a turn.
+fn base_for(kind: Kind, bias: u8) -> u128
+    ensures { result ≡ base_for kind bias }
+{
+    match kind {
+        Kind::AvoiderEnforcer => 2,
+        Kind::MakerBreaker | Kind::MakerMaker | Kind::Switching => 1 + u128::from(bias),
+    }
+}
+
+/// Whether both sides win by filling a line in a game of the kind.
+fn is_race(kind: Kind) -> bool
+    ensures { result ≡ is_race kind }
+{
+    match kind {
+        Kind::MakerMaker => true,
+        Kind::MakerBreaker | Kind::AvoiderEnforcer | Kind::Switching => false,
+    }
+}
+
+/// Whether a side avoids lines in a game of the kind.
+fn is_avoiding(kind: Kind) -> bool
+    ensures { result ≡ is_avoiding kind }
+{
+    match kind {
+        Kind::AvoiderEnforcer => true,
+        Kind::MakerBreaker | Kind::MakerMaker | Kind::Switching => false,
+    }
+}
+
+/// Whether the board's counts show that the side to move after a move has no threat line: it may
+/// not attack, or it lacks more than two points of each line already before the move.
+fn is_safe(b: &Board<'_>, q: &Position) -> bool
+    ensures { (v : ℕ) → IsMoveOf b.now q.now v
+        → is_over b.now.game q.now ≡ false → result ≡ true
+        → attack_wins b.now.game q.now ≡ false }
+{
+    if b.game().bias != 1 {
+        return true;
+    }
+    if !may_attack(b.kind(), q.turn) {
+        return true;
+    }
+    let mover = b.turn();
+    if b.live_with(mover, 1) != 0 {
+        return false;
+    }
+    b.live_with(mover, 2) == 0
+}
+
+impl Ahead {
+    /// The weights at the position at which the board stands, for the question. It takes one walk
+    /// over the lines.
+    pub fn look(b: &Board<'_>, question: Score, p: &Position) -> Ahead
+        requires { p.now ≡ b.now.stand.position }
+        ensures { IsAhead question b.now result }
+    {
+        let g = b.game();
+        let side = defender(g.kind, question);
+        let breaker = breaker_of(g.kind, side);
+        let base = base_for(g.kind, g.bias);
+        Ahead {
+            defender: side,
+            breaker,
+            base,
+            limit: full_weight(g, base),
+            weights: weigh(g, base, p.points_of(breaker), p),
+        }
+    }
+
+    /// The total after a move to the point.
+    fn total_after(&self, b: &Board<'_>, v: u16) -> u128
+        requires weighed { IsWeighed b.now self.now }
+        requires moves { (q : Position) × IsMoveOf b.now q v }
+        ensures { (q : Position) → IsMoveOf b.now q v
+            → result ≡ total_weight self.now.base b.now.game (points_of q self.now.breaker) q }
+    {
+        let weight = self.weights.points[usize::from(v)];
+        let total = self.weights.total;
+        if self.breaker.is_same(b.turn()) {
+            total - weight
+        } else {
+            total + (self.base - 1) * weight
+        }
+    }
+
+    /// Whether the counts show that the game goes on after a move that leads to this total.
+    fn goes_on(&self, b: &Board<'_>, total: u128) -> bool
+        ensures { (t : Score) → (q : Position) → (v : ℕ) → IsAhead t b.now self.now
+            → IsMoveOf b.now q v
+            → total ≡ total_weight self.now.base b.now.game (points_of q self.now.breaker) q
+            → result ≡ true
+            → is_over b.now.game q ≡ false }
+    {
+        if b.free_count() < 2 {
+            return false;
+        }
+        if total == 0 {
+            return false;
+        }
+        if !is_race(b.kind()) {
+            if total < self.limit {
+                return true;
+            }
+            if Side::Y.is_same(b.turn()) {
+                return true;
+            }
+        }
+        b.live_with(b.turn().other(), 1) == 0
+    }
+
+    /// Whether the potential holds after a move that leads to this total, and None where that takes
+    /// the weights of points there.
+    fn holds(&self, b: &Board<'_>, q: &Position, total: u128) -> Option<bool>
+        requires weighed { IsWeighed b.now self.now }
+        requires moves { (v : ℕ) × IsMoveOf b.now q.now v }
+        requires total { total
+            ≡ total_weight self.now.base b.now.game (points_of q.now self.now.breaker) q.now }
+        ensures { (t : Score) → self.now.defender ≡ defender b.now.game.kind t
+            → IfSome result (λ r. r ≡ defends b.now.game.kind b.now.game t q.now) }
+    {
+        if total >= self.limit {
+            return Some(false);
+        }
+        let bias = b.game().bias;
+        if is_avoiding(b.kind()) {
+            let free = b.free_count() - 1;
+            if x_takes_last(u16::from(bias), q.turn, u16::from(q.left), free) {
+                return Some(2 * total < self.limit);
+            }
+            return Some(true);
+        }
+        if q.turn.is_same(self.breaker) {
+            if q.left == bias {
+                return Some(true);
+            }
+        }
+        None
+    }
+
+    /// At most how many lines the move takes from those without a point of the side that breaks
+    /// lines.
+    fn lost(&self, b: &Board<'_>, v: u16) -> usize
+        requires { v < point_count b.now.game }
+        ensures { is_same_side self.now.breaker b.now.stand.position.turn ≡ true
+            → result ≡ degree b.now.game v }
+    {
+        if self.breaker.is_same(b.turn()) {
+            return b.through(v).len();
+        }
+        0
+    }
+
+    /// Whether the board's counts show that after the move not each of the lines meant can have two
+    /// free points of its own: there are too many lines for the free points.
+    fn is_short(&self, b: &Board<'_>, v: u16) -> bool
+        requires weighed { IsWeighed b.now self.now }
+        requires range { v < point_count b.now.game }
+        ensures { (q : Position) → IsMoveOf b.now q v → result ≡ true
+            → pairs_exist b.now.game q self.now.defender ≡ false }
+    {
+        let lines = b.live_count(self.breaker) as usize;
+        let lost = self.lost(b, v);
+        if lines < lost {
+            return false;
+        }
+        2 * (lines - lost) >= usize::from(b.free_count())
+    }
+
+    /// What the weights and the board's counts tell of the position after a move to the point,
+    /// without a play.
+    pub fn tells(&self, b: &Board<'_>, q: &Position, v: u16) -> Told
+        requires moves { IsMoveOf b.now q.now v }
+        requires weighed { IsWeighed b.now self.now }
+        ensures { (t : Score) → IsQuestion b.now.game.kind t → IsAhead t b.now self.now
+            → IsTold b.now.game t q.now result }
+    {
+        let total = self.total_after(b, v);
+        if !self.goes_on(b, total) {
+            return Told::Unsure;
+        }
+        let Some(holds) = self.holds(b, q, total) else {
+            return Told::Unsure;
+        };
+        if holds {
+            return Told::Decided(answer_for(self.defender), Body::Potential);
+        }
+        if !is_safe(b, q) {
+            return Told::Unsure;
+        }
+        if self.is_short(b, v) {
+            Told::Open
+        } else {
+            Told::Unsure
+        }
+    }
+}
