@@ -1,9 +1,10 @@
 -- Sets of points that are equal, and what is hashed of one.
-use Rattle.std.specs.Prelude.{◌≡◌, ℕ, Bool, true, ◌&&◌, if◌then◌else◌, List, [], ◌∷◌, nat_eq}
+use Rattle.std.specs.Prelude.{◌≡◌, ℕ, Bool, true, ◌&&◌, List, ◌∷◌, length}
 use Rattle.std.proofs.Common.{sym, ap, ◌∙◌, subst, inl, inr}
 use Rattle.pg_base.specs.Prelude.{flat_map, nat_cmp, IsEquivalence, IsPartialEquivalence, decided}
 use Rattle.pg_base.specs.Prelude.{partial_equiv_from_equiv, nat_cmp_total}
 use Rattle.std.specs.Bool.{Decides}
+use Rattle.std.specs.Hash.{le_bytes}
 use Rattle.std.specs.Hash as fed
 use Rattle.std.specs.FinSet.{FinSet, contains, is_subset, is_subset-contains, contains-is_subset}
 use Rattle.std.proofs.lemmas.Bool.{and_parts, and_from, cases_Bool, false_from_ne_true, false≢true}
@@ -41,19 +42,12 @@ equal-equivalence = decided equal equal-decides
 pub equal-partial : IsPartialEquivalence equal
 equal-partial = partial_equiv_from_equiv equal-equivalence
 
--- a word before the words up to the last that isn't 0
-abbrev pub joined : ℕ → List ℕ → List ℕ
-joined w [] = if nat_eq w 0 then [] else w ∷ []
-joined w (v ∷ vs) = w ∷ v ∷ vs
+-- the number of words and their bytes
+abbrev pub words_hash_input : List ℕ → List (List ℕ)
+words_hash_input ws = le_bytes 8 (length ws) ∷ flat_map fed.u64 ws
 
--- the words up to the last that isn't 0
-unfoldable pub filled : List ℕ → List ℕ
-filled [] = []
-filled (w ∷ ws) = joined w (filled ws)
-
--- the bytes of these words
 abbrev pub hash_input : FinSet nat_cmp → List (List ℕ)
-hash_input s = flat_map fed.u64 (filled (words_of s))
+hash_input s = words_hash_input (words_of s)
 
 pub hash_input-respects : (s t : FinSet nat_cmp) → equal s t ≡ true → hash_input s ≡ hash_input t
 hash_input-respects s t h = ap hash_input ((equal-decides s t).0 h)

@@ -5,7 +5,6 @@ ghost use Rattle.std.specs.List.{All, list_any, list_all};
 ghost use Rattle.std.specs.FinSet as set;
 ghost use Rattle.pg_base.specs.Words.{words_of};
 ghost use Rattle.pg_base.specs.Points.{IsLeastFrom, AreBelow, ShareNone, AreWithin};
-ghost use Rattle.pg_base.specs.PointLemmas.{filled};
 
 use crate::limits::MAX_MEMBERS;
 use std::hash::{Hash, Hasher};
@@ -57,7 +56,6 @@ impl Eq for PointSet {
     ghost laws = { equal-equivalence };
 }
 
-/// The words up to the last that has a point are hashed: few, where all points are low.
 impl Hash for PointSet {
     ghost use Rattle.pg_base.specs.PointLemmas.{hash_input, hash_input-respects};
 
@@ -66,7 +64,7 @@ impl Hash for PointSet {
     ghost respects_eq = { hash_input-respects };
 
     fn hash<H: Hasher>(&self, state: &mut H) {
-        u64::hash_slice(self.filled(), state);
+        self.words.hash(state);
     }
 }
 
@@ -125,20 +123,6 @@ impl PointSet {
         ensures count { length result.now ≡ 16 }
     {
         &self.words
-    }
-
-    // The words up to the last that has a point.
-    fn filled(&self) -> &[u64]
-        ensures { result.now ≡ filled (words_of self.now) }
-    {
-        let mut words = self.words();
-        while let Some((last, others)) = words.split_last() {
-            if *last != 0 {
-                return words;
-            }
-            words = others;
-        }
-        words
     }
 
     /// Whether one of the points is in the set.
