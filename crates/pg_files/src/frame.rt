@@ -1,4 +1,5 @@
-//! Lines that say what a game is played on, and how: its kind, its points or vertices, and its bias.
+//! Lines that say what a game is played on, and how: its kind, its points or vertices, and its
+//! bias.
 ghost use Rattle.std.specs.Prelude.{◌≡◌, ◌*◌, ◌≤◌, IfSome, map};
 ghost use Rattle.pg_files.specs.declared.key.Key.TheVariants as keys;
 ghost use Rattle.pg_files.specs.Prelude.{Becomes};

@@ -1,6 +1,6 @@
 //! The bytes and words of a line.
-ghost use Rattle.std.specs.Prelude.{◌≡◌, ◌==◌, ◌||◌, not, true, map, length, [], ◌∷◌, IfNone, IfSome};
-ghost use Rattle.std.specs.Prelude.{is_none};
+ghost use Rattle.std.specs.Prelude.{◌≡◌, ◌==◌, ◌||◌, not, true, map, length, [], ◌∷◌, IfNone};
+ghost use Rattle.std.specs.Prelude.{IfSome, is_none};
 ghost use Rattle.pg_files.specs.Prelude.{list_all, numbers, ones};
 ghost use Rattle.pg_files.specs.GameFile.{is_header, is_printable, begins_comment};
 
