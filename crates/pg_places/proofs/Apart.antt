@@ -2,8 +2,8 @@
 use Rattle.std.proofs.Common.{◌≡◌, ◌∙◌, ℕ, zero, suc, ◌+◌, ◌*◌, ◌-◌, ◌/◌, ◌%◌, ◌≤◌, ◌⊎◌, inl, inr}
 use Rattle.std.proofs.Common.{sym, ap, ap₂, arith, refl}
 use Rattle.std.specs.Prelude.{max}
-use Rattle.pg_draw.proofs.Common.{div-add-mod', mod_below, nat_tests, Place}
-use Rattle.pg_draw.specs.Places.{column_of, columns_of, place_on_bridge, place_on_grid, row_of}
+use Rattle.pg_places.proofs.Common.{div-add-mod', mod_below, nat_tests, Place}
+use Rattle.pg_places.specs.Places.{column_of, columns_of, place_on_bridge, place_on_grid, row_of}
 
 -- numbers with the same quotient and the same remainder are one
 pub same_by_division : (v w m : ℕ) → v % m ≡ w % m → v / m ≡ w / m → v ≡ w

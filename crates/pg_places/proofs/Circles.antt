@@ -2,15 +2,15 @@
 use Rattle.std.proofs.Common.{◌≡◌, ◌∙◌, ℕ, zero, suc, ◌+◌, ◌*◌, ◌-◌, ◌/◌, ◌%◌, ◌<◌, ◌≤◌, Bool, true}
 use Rattle.std.proofs.Common.{inl, inr, sym, ap, arith, refl, subst}
 use Rattle.std.specs.Prelude.{max, nat_le, ◌&&◌, ◌==◌, slice_index, if◌then◌else◌}
-use Rattle.pg_draw.proofs.Common.{add-mul-div_right, div-le_of_le-mul, div-lt_iff_lt-mul}
-use Rattle.pg_draw.proofs.Common.{div-mul-le_self, lt-div-mul-add, mul-add, mul-le-mul_left}
-use Rattle.pg_draw.proofs.Common.{and_parts, cases_Bool, cases_lt, nat_tests, div-add-mod', le-div}
-use Rattle.pg_draw.proofs.Common.{mod_below, mul-le, MAX_VERTICES, Place}
-use Rattle.pg_draw.specs.Places.{at, part_of, place_after, place_on_circle, place_on_ring}
-use Rattle.pg_draw.specs.Places.{radius_of}
-use Rattle.pg_draw.specs.declared.measures.TheConstants.{MAX_ON_RING, ROW}
-use Rattle.pg_draw.specs.declared.sines.TheConstants.{SINES}
-use Rattle.pg_draw.proofs.Apart.{cells_apart}
+use Rattle.pg_places.proofs.Common.{add-mul-div_right, div-le_of_le-mul, div-lt_iff_lt-mul}
+use Rattle.pg_places.proofs.Common.{div-mul-le_self, lt-div-mul-add, mul-add, mul-le-mul_left}
+use Rattle.pg_places.proofs.Common.{and_parts, cases_Bool, cases_lt, nat_tests, div-add-mod'}
+use Rattle.pg_places.proofs.Common.{le-div, mod_below, mul-le, MAX_VERTICES, Place}
+use Rattle.pg_places.specs.Places.{at, part_of, place_after, place_on_circle, place_on_ring}
+use Rattle.pg_places.specs.Places.{radius_of}
+use Rattle.pg_places.specs.declared.measures.TheConstants.{MAX_ON_RING, ROW}
+use Rattle.pg_places.specs.declared.sines.TheConstants.{SINES}
+use Rattle.pg_places.proofs.Apart.{cells_apart}
 
 -- ---- the table
 

@@ -1,13 +1,14 @@
 -- How edges run.
 use Rattle.std.specs.Prelude.{ℕ, ◌+◌, ◌*◌, ◌/◌, ◌==◌, ◌&&◌, ◌||◌, max, nat_le, Bool, if◌then◌else◌}
 use Rattle.std.specs.Prelude.{List, [], ◌∷◌, ◌++◌, Option, Some, None, slice_get, fold}
-use Rattle.pg_draw.specs.Prelude.{count_by, Place}
+use Rattle.pg_places.specs.Prelude.{count_by, Place}
 use Rattle.std.specs.Int.{abs_diff}
-use Rattle.pg_draw.specs.declared.course.Course.{Course}
-use Rattle.pg_draw.specs.declared.course.Course.TheVariants.{Straight, Bent, Around}
-use Rattle.pg_draw.specs.declared.measures.TheConstants.{BEND, LOOP, MARGIN, MAX_MIDDLE_REACH, TOP}
-use Rattle.pg_draw.specs.declared.vertices.Plan.{Plan}
-use Rattle.pg_draw.specs.Places.{IsWithin, at, place_of_end}
+use Rattle.pg_places.specs.declared.course.Course.{Course}
+use Rattle.pg_places.specs.declared.course.Course.TheVariants.{Straight, Bent, Around}
+use Rattle.pg_places.specs.declared.measures.TheConstants.{BEND, LOOP, MARGIN, MAX_MIDDLE_REACH}
+use Rattle.pg_places.specs.declared.measures.TheConstants.{TOP}
+use Rattle.pg_places.specs.declared.vertices.Plan.{Plan}
+use Rattle.pg_places.specs.Places.{IsWithin, at, place_of_end}
 
 -- the place half way between two
 abbrev pub midway : Place → Place → Place

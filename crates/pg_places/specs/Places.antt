@@ -1,12 +1,13 @@
 -- Where points and vertices lie in a picture.
 use Rattle.std.specs.Prelude.{ℕ, ◌+◌, ◌*◌, ◌-◌, ◌/◌, ◌%◌, ◌<◌, ◌≤◌, ◌==◌, max, nat_le}
 use Rattle.std.specs.Prelude.{if◌then◌else◌, Option, Some, None, IfSome, slice_index}
-use Rattle.pg_draw.specs.Prelude.{MAX_VERTICES, Place, MAX_BRIDGE_ROWS}
-use Rattle.pg_draw.specs.declared.measures.TheConstants.{APART, CELL, HALF, MARGIN, MAX_ON_RING}
-use Rattle.pg_draw.specs.declared.measures.TheConstants.{MIN_RADIUS, QUARTER, ROW, SINE_OF_QUARTER}
-use Rattle.pg_draw.specs.declared.measures.TheConstants.{SPREAD, TOP, TURN}
-use Rattle.pg_draw.specs.declared.vertices.Plan.{Plan}
-use Rattle.pg_draw.specs.declared.sines.TheConstants.{SINES}
+use Rattle.pg_places.specs.Prelude.{MAX_VERTICES, Place, MAX_BRIDGE_ROWS}
+use Rattle.pg_places.specs.declared.measures.TheConstants.{APART, CELL, HALF, MARGIN, MAX_ON_RING}
+use Rattle.pg_places.specs.declared.measures.TheConstants.{MIN_RADIUS, QUARTER, ROW}
+use Rattle.pg_places.specs.declared.measures.TheConstants.{SINE_OF_QUARTER, SPREAD, TOP}
+use Rattle.pg_places.specs.declared.measures.TheConstants.{TURN}
+use Rattle.pg_places.specs.declared.vertices.Plan.{Plan}
+use Rattle.pg_places.specs.declared.sines.TheConstants.{SINES}
 
 -- the place so far from the left and from the top
 abbrev pub at : ℕ → ℕ → Place

@@ -1,13 +1,13 @@
 //! Places on the boards of Bridg-It.
 ghost use Rattle.std.specs.Prelude.{◌≡◌, ◌+◌, ◌≤◌, ◌<◌, ◌^◌};
-ghost use Rattle.pg_draw.specs.Places.{IsWithin, columns_of, column_of, place_on_bridge, row_of};
-ghost use Rattle.pg_gen.specs.declared.limits.TheConstants.{MAX_BRIDGE_ROWS};
+ghost use Rattle.pg_places.specs.Prelude.{MAX_BRIDGE_ROWS};
+ghost use Rattle.pg_places.specs.Places.{IsWithin, columns_of, column_of, place_on_bridge, row_of};
 
 use crate::measures::{APART, HALF, MARGIN, MAX_END_REACH, TOP};
 use pg_picture::Place;
 
 /// How many columns of inner vertices there are.
-pub(crate) fn columns_of(rows: u32) -> u32
+pub fn columns_of(rows: u32) -> u32
     requires { rows ≤ MAX_BRIDGE_ROWS }
     ensures columns { result ≡ columns_of rows }
     ensures some { 1 ≤ result }
@@ -50,7 +50,7 @@ fn row_of(rows: u32, vertex: u16, other: u16) -> u32
 
 /// The place at which an edge leaves a vertex.
 #[tactic(auto, unfolding(crate::specs::Places::place_on_bridge))]
-pub(crate) fn place_on_bridge(rows: u32, vertex: u16, other: u16) -> Place
+pub fn place_on_bridge(rows: u32, vertex: u16, other: u16) -> Place
     requires { rows ≤ MAX_BRIDGE_ROWS }
     ensures place { result ≡ place_on_bridge rows vertex other }
     ensures near { IsWithin MAX_END_REACH result }

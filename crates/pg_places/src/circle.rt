@@ -1,11 +1,13 @@
-//! Places on a circle.
+//! Places on a circle, and of points that have no place of their own.
 ghost use Rattle.std.specs.Prelude.{◌≡◌, ◌≤◌, ◌<◌, ◌^◌};
-ghost use Rattle.pg_draw.specs.Places.{IsWithin, part_of, place_after, place_on_circle, radius_of};
-ghost use Rattle.pg_game.specs.declared.bounds.TheConstants.{MAX_VERTICES};
+ghost use Rattle.pg_places.specs.Prelude.{MAX_VERTICES};
+ghost use Rattle.pg_places.specs.Places.{IsWithin, part_of, place_after, place_on_circle};
+ghost use Rattle.pg_places.specs.Places.{place_on_ring, radius_of};
 
+use crate::grid::place_on_grid;
 use crate::measures::{
-    HALF, MARGIN, MAX_CIRCLE_REACH, MAX_RADIUS, MIN_RADIUS, QUARTER, SINE_OF_QUARTER, SPREAD, TOP,
-    TURN,
+    HALF, MARGIN, MAX_CIRCLE_REACH, MAX_END_REACH, MAX_ON_RING, MAX_RADIUS, MIN_RADIUS, QUARTER,
+    ROW, SINE_OF_QUARTER, SPREAD, TOP, TURN,
 };
 use crate::sines::SINES;
 use pg_picture::Place;
@@ -51,7 +53,7 @@ fn place_after(radius: u32, step: u32) -> Place
 }
 
 /// The radius of a circle on which so many lie.
-pub(crate) fn radius_of(count: u32) -> u32
+pub fn radius_of(count: u32) -> u32
     requires { count ≤ MAX_VERTICES }
     ensures radius { result ≡ radius_of count }
     ensures small { result ≤ MAX_RADIUS }
@@ -61,10 +63,22 @@ pub(crate) fn radius_of(count: u32) -> u32
 
 /// The place of one of so many on a circle.
 #[tactic(auto, unfolding(crate::specs::Places::place_on_circle))]
-pub(crate) fn place_on_circle(count: u32, index: u16) -> Place
+pub fn place_on_circle(count: u32, index: u16) -> Place
     requires { count ≤ MAX_VERTICES }
     ensures place { result ≡ place_on_circle count index }
     ensures near { IsWithin MAX_CIRCLE_REACH result }
 {
     place_after(radius_of(count), u32::from(index) * TURN / count.max(1))
+}
+
+/// The place of one of so many points that have no place of their own.
+pub fn place_on_ring(points: u32, point: u16) -> Place
+    ensures place { result ≡ place_on_ring points point }
+    ensures near { IsWithin MAX_END_REACH result }
+{
+    if points <= MAX_ON_RING {
+        place_on_circle(points, point)
+    } else {
+        place_on_grid(ROW, point)
+    }
 }

@@ -1,9 +1,9 @@
 //! How edges run.
 ghost use Rattle.std.specs.Prelude.{◌≡◌, ◌+◌, ◌≤◌, length};
-ghost use Rattle.pg_draw.specs.Prelude.{count_by, MAX_EDGES};
-ghost use Rattle.pg_draw.specs.Places.{IsPlan, IsWithin};
-ghost use Rattle.pg_draw.specs.Courses.{beside, bend_of, course_of, have_same_ends, middle_of};
-ghost use Rattle.pg_draw.specs.Courses.{midway};
+ghost use Rattle.pg_places.specs.Prelude.{count_by, MAX_EDGES};
+ghost use Rattle.pg_places.specs.Places.{IsPlan, IsWithin};
+ghost use Rattle.pg_places.specs.Courses.{beside, bend_of, course_of, have_same_ends, middle_of};
+ghost use Rattle.pg_places.specs.Courses.{midway};
 
 use crate::measures::{BEND, LOOP, MAX_END_REACH, MAX_MIDDLE_REACH};
 use crate::vertices::Plan;
@@ -11,7 +11,7 @@ use pg_picture::Place;
 
 /// How an edge runs.
 #[derive(Clone, Copy, Debug, PartialEq, Eq)]
-pub(crate) enum Course {
+pub enum Course {
     /// Straight from one place to another.
     Straight {
         /// Where it begins.
@@ -46,7 +46,7 @@ fn midway(a: Place, b: Place) -> Place
 }
 
 /// The middle of an edge.
-pub(crate) fn middle_of(course: Course) -> Place
+pub fn middle_of(course: Course) -> Place
     ensures { result ≡ middle_of course }
 {
     match course {
@@ -64,7 +64,7 @@ fn have_same_ends(a: (u16, u16), b: (u16, u16)) -> bool
 }
 
 /// How many of the edges have the same two ends as this one.
-pub(crate) fn parallels(ends: &[(u16, u16)], edge: (u16, u16)) -> u32
+pub fn parallels(ends: &[(u16, u16)], edge: (u16, u16)) -> u32
     requires { length ends.now ≤ MAX_EDGES }
     ensures parallels { result ≡ count_by (have_same_ends edge) ends.now }
     ensures few { result ≤ MAX_EDGES }
@@ -81,7 +81,7 @@ pub(crate) fn parallels(ends: &[(u16, u16)], edge: (u16, u16)) -> u32
 /// The place towards which an edge is bent: down from its middle where it leads rather across, else
 /// to the right.
 #[tactic(auto, unfolding(crate::specs::Courses::bend_of))]
-pub(crate) fn bend_of(from: Place, to: Place, steps: u32) -> Place
+pub fn bend_of(from: Place, to: Place, steps: u32) -> Place
     requires from { IsWithin MAX_END_REACH from }
     requires to { IsWithin MAX_END_REACH to }
     requires few { steps ≤ MAX_EDGES + 1 }
@@ -118,7 +118,7 @@ fn beside(place: Place, steps: u32) -> Place
 
 /// How an edge runs, where so many before it have the same ends.
 #[tactic(auto, unfolding(crate::specs::Courses::course_of))]
-pub(crate) fn course_of(plan: Plan, steps: u32, edge: (u16, u16)) -> Course
+pub fn course_of(plan: Plan, steps: u32, edge: (u16, u16)) -> Course
     requires plan { IsPlan plan }
     requires few { steps ≤ MAX_EDGES }
     ensures course { result ≡ course_of plan steps edge }

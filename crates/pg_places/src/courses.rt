@@ -1,8 +1,8 @@
 //! How all edges of a graph run.
 ghost use Rattle.std.specs.Prelude.{◌≡◌, ◌≤◌, length, slice_get, IfOk, []};
-ghost use Rattle.pg_draw.specs.Places.{IsPlan, IsWithin};
-ghost use Rattle.pg_draw.specs.Courses.{courses_behind, farthest, place_of_edge};
-ghost use Rattle.pg_base.specs.declared.limits.TheConstants.{MAX_EDGES};
+ghost use Rattle.pg_places.specs.Prelude.{MAX_EDGES};
+ghost use Rattle.pg_places.specs.Places.{IsPlan, IsWithin};
+ghost use Rattle.pg_places.specs.Courses.{courses_behind, farthest, place_of_edge};
 
 use crate::course::{Course, course_of, middle_of, parallels};
 use crate::measures::{MARGIN, MAX_MIDDLE_REACH, TOP};
@@ -14,7 +14,7 @@ use std::marker::Model;
 
 /// How each edge of a graph runs.
 #[derive(Debug, Drop)]
-pub(crate) struct Courses {
+pub struct Courses {
     members: Vec<Course>,
 }
 
@@ -22,8 +22,8 @@ pub(crate) struct Courses {
 impl Model for Courses {
     ghost use Rattle.std.specs.Prelude.{List};
     ghost use Rattle.std.specs.List.{All};
-    ghost use Rattle.pg_draw.specs.Courses.{HasNearMiddle};
-    ghost use Rattle.pg_draw.specs.declared.course.Course.{Course};
+    ghost use Rattle.pg_places.specs.Courses.{HasNearMiddle};
+    ghost use Rattle.pg_places.specs.declared.course.Course.{Course};
 
     ghost Value = { List Course };
 
@@ -34,7 +34,7 @@ impl Model for Courses {
 
 impl Courses {
     /// No courses.
-    pub(crate) fn none(alloc: Global) -> Courses
+    pub fn none(alloc: Global) -> Courses
         ensures { result ≡ [] }
     {
         Courses {
@@ -43,11 +43,7 @@ impl Courses {
     }
 
     /// The courses of edges with these ends.
-    pub(crate) fn of_edges(
-        alloc: Global,
-        plan: Plan,
-        ends: &[(u16, u16)],
-    ) -> Result<Courses, Memory>
+    pub fn of_edges(alloc: Global, plan: Plan, ends: &[(u16, u16)]) -> Result<Courses, Memory>
         requires plan { IsPlan plan }
         requires few { length ends.now ≤ MAX_EDGES }
         ensures { IfOk result (λ courses. courses ≡ courses_behind plan [] ends.now) }
@@ -61,14 +57,14 @@ impl Courses {
     }
 
     /// How an edge runs.
-    pub(crate) fn at(&self, edge: u16) -> Option<Course>
+    pub fn at(&self, edge: u16) -> Option<Course>
         ensures { result ≡ slice_get self.now edge }
     {
         self.members.get(edge as usize).copied()
     }
 
     /// The middle of an edge.
-    pub(crate) fn place_of(&self, edge: u16) -> Place
+    pub fn place_of(&self, edge: u16) -> Place
         ensures place { result ≡ place_of_edge self.now edge }
         ensures near { IsWithin MAX_MIDDLE_REACH result }
     {
@@ -82,7 +78,7 @@ impl Courses {
     }
 
     /// How far the middles of edges reach.
-    pub(crate) fn farthest(&self) -> Place
+    pub fn farthest(&self) -> Place
         ensures place { result ≡ farthest self.now }
         ensures near { IsWithin MAX_MIDDLE_REACH result }
     {

@@ -1,7 +1,7 @@
 use Rattle.std.proofs.Common.{◌≡◌, ◌++◌, take, drop, []}
 use Rattle.std.specs.List.{All}
-use Rattle.pg_draw.specs.Courses.{HasNearMiddle, courses_behind}
-use Rattle.pg_draw.proofs.courses.Courses.of_edges.Given as goal
+use Rattle.pg_places.specs.Courses.{HasNearMiddle, courses_behind}
+use Rattle.pg_places.proofs.courses.Courses.of_edges.Given as goal
 
 abbrev pub invariant-loop-i : goal.invariant-loop-i
 invariant-loop-i l =
