@@ -1,9 +1,11 @@
 -- What the proofs of this crate name of std and of the crates below.
-pub use Rattle.pg_draw.specs.Prelude.{Board, Graph, Grid, IsBoard, Item, MAX_VERTICES, Place, Ring}
-pub use Rattle.pg_draw.specs.Prelude.{Scene, Words, points_on, vertices_on}
-pub use Rattle.std.proofs.Math.Nat.{add-mul-div_right, div-le_of_le-mul, div-lt_iff_lt-mul}
-pub use Rattle.std.proofs.Math.Nat.{div-mul-le_self, lt-div-mul-add, mul-add, mul-le-mul_left}
-pub use Rattle.std.proofs.Math.Nat.{mul_comm}
-pub use Rattle.std.proofs.lemmas.Bool.{and_parts, cases_Bool, cases_lt}
+pub use Rattle.pg_draw.specs.Prelude.{Board, Course, Graph, Grid, HALF, IsBoard, Item, MARGIN}
+pub use Rattle.pg_draw.specs.Prelude.{MAX_ON_RING, Place, ROW, Ring, Scene, TOP, Words, at}
+pub use Rattle.pg_draw.specs.Prelude.{column_of, columns_of, farther, part_of, place_by}
+pub use Rattle.pg_draw.specs.Prelude.{place_of_edge, place_on_ring, points_on, radius_of, row_of}
+pub use Rattle.pg_draw.specs.Prelude.{vertices_on}
+unfoldable pub use Rattle.pg_draw.specs.Prelude.{place_on_bridge, place_on_circle, place_on_grid}
+pub use Rattle.std.proofs.Math.Nat.{div-lt_iff_lt-mul, mul_comm}
+pub use Rattle.std.proofs.lemmas.Bool.{cases_Bool}
 pub use Rattle.std.proofs.lemmas.Bool.Decides.{nat_tests}
-pub use Rattle.std.proofs.lemmas.Nat.{div-add-mod', le-div, mod_below, mul-le}
+pub use Rattle.std.proofs.lemmas.Nat.{mod_below}

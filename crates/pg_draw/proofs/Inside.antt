@@ -4,17 +4,15 @@ use Rattle.std.proofs.Common.{inl, inr, arith, subst}
 use Rattle.std.specs.Prelude.{Option, Some, None, fold, max, nat_le, ◌==◌}
 use Rattle.pg_draw.proofs.Common.{div-lt_iff_lt-mul, mul_comm, cases_Bool, nat_tests, mod_below}
 use Rattle.pg_draw.proofs.Common.{Place, IsBoard, points_on, vertices_on, Board, Grid, Ring, Graph}
-use Rattle.pg_draw.proofs.Common.{Scene}
-use Rattle.pg_draw.specs.Courses.{farther, place_of_edge}
+use Rattle.pg_draw.proofs.Common.{Scene, farther, place_of_edge, at, column_of, columns_of, part_of}
+use Rattle.pg_draw.proofs.Common.{place_by, place_on_bridge, place_on_circle, place_on_grid}
+use Rattle.pg_draw.proofs.Common.{place_on_ring, radius_of, row_of, Course, HALF, MARGIN}
+use Rattle.pg_draw.proofs.Common.{MAX_ON_RING, ROW, TOP}
 use Rattle.pg_draw.specs.Laws.{IsInside, IsUpTo, vertex_place}
 use Rattle.pg_draw.specs.Pictures.{bridge_reach, circle_reach, far_corner, picture_of, reach_by}
 use Rattle.pg_draw.specs.Pictures.{reach_of, row_reach}
-use Rattle.pg_draw.specs.Places.{at, column_of, columns_of, part_of, place_by, place_on_bridge}
-use Rattle.pg_draw.specs.Places.{place_on_circle, place_on_grid, place_on_ring, radius_of, row_of}
 use Rattle.pg_draw.specs.Shapes.{courses_of, place_of}
-use Rattle.pg_draw.specs.declared.course.Course.{Course}
-use Rattle.pg_draw.specs.declared.measures.TheConstants.{HALF, MARGIN, MAX_ON_RING, ROW, TOP}
-use Rattle.pg_draw.proofs.Circles.{part_fits, place_in}
+use Rattle.pg_places.proofs.Circles.{part_fits, place_in}
 
 -- ---- cells
 

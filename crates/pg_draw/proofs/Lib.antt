@@ -1,5 +1,3 @@
 mod Common
-mod Apart
-mod Circles
 mod Inside
 mod Order

@@ -4,12 +4,11 @@ use Rattle.std.specs.List.{flat_map}
 use Rattle.std.proofs.lemmas.Grind.{flat_map-append}
 use Rattle.std.proofs.lemmas.List.Concat.{flat_map-cons}
 use Rattle.pg_picture.specs.declared.paint.Paint.TheVariants as paints
-use Rattle.pg_draw.proofs.Common.{Words, Item, Scene}
+use Rattle.pg_draw.proofs.Common.{Words, Item, Scene, at, MARGIN}
 use Rattle.pg_draw.specs.Laws.{IsDrawnBetween, last_shapes}
 use Rattle.pg_draw.specs.Pictures.{picture_of}
-use Rattle.pg_draw.specs.Places.{at}
 use Rattle.pg_draw.specs.Shapes.{courses_of, item_shapes}
-use Rattle.pg_draw.specs.declared.measures.TheConstants.{HEADING_DOWN, MARGIN}
+use Rattle.pg_draw.specs.declared.measures.TheConstants.{HEADING_DOWN}
 
 parts_of : {A B : Type 0} (f : A → List B) (before after : List A) (x : A) (last : List B)
     → flat_map f (before ++ x ∷ after) ++ last

@@ -3,11 +3,10 @@ use Rattle.std.specs.Prelude.{◌≡◌, ℕ, ◌+◌, ◌≤◌, List, ◌∷�
 use Rattle.std.specs.List.{flat_map}
 use Rattle.pg_picture.specs.declared.paint.Paint.TheVariants as paints
 use Rattle.pg_draw.specs.Prelude.{Picture, Place, Shape, Words, Board, Grid, Ring, Graph, Item}
-use Rattle.pg_draw.specs.Prelude.{Scene}
+use Rattle.pg_draw.specs.Prelude.{Scene, at, place_of_end, HALF, MARGIN, TOP}
 use Rattle.pg_draw.specs.Pictures.{far_corner, legend_shapes, picture_of}
-use Rattle.pg_draw.specs.Places.{at, place_of_end}
 use Rattle.pg_draw.specs.Shapes.{courses_of, item_shapes, plan_of, vertices_shapes}
-use Rattle.pg_draw.specs.declared.measures.TheConstants.{HALF, HEADING_DOWN, MARGIN, TOP}
+use Rattle.pg_draw.specs.declared.measures.TheConstants.{HEADING_DOWN}
 
 -- the shapes of items on a scene's board
 abbrev pub shapes_on : Scene → List Item → List Shape

@@ -4,15 +4,12 @@ use Rattle.std.specs.Prelude.{◌++◌, length, Option, Some, None, fold}
 use Rattle.std.specs.List.{flat_map}
 use Rattle.pg_picture.specs.declared.paint.Paint.TheVariants as paints
 use Rattle.pg_draw.specs.Prelude.{Picture, Place, Shape, Words, Board, Grid, Ring, Graph, Scene}
-use Rattle.pg_draw.specs.Courses.{farthest}
-use Rattle.pg_draw.specs.Places.{at, columns_of, radius_of}
+use Rattle.pg_draw.specs.Prelude.{farthest, at, columns_of, radius_of, Course, APART, CELL, HALF}
+use Rattle.pg_draw.specs.Prelude.{MARGIN, MAX_ON_RING, ROW, TOP, Plan}
 use Rattle.pg_draw.specs.Shapes.{courses_of, item_shapes, plan_of, vertices_shapes}
-use Rattle.pg_draw.specs.declared.course.Course.{Course}
-use Rattle.pg_draw.specs.declared.measures.TheConstants.{APART, CELL, HALF, HEADING_DOWN}
+use Rattle.pg_draw.specs.declared.measures.TheConstants.{HEADING_DOWN}
 use Rattle.pg_draw.specs.declared.measures.TheConstants.{HEADING_LETTER, LEADING, LEGEND_LETTER}
-use Rattle.pg_draw.specs.declared.measures.TheConstants.{MARGIN, MAX_COUNTED_LETTERS, MAX_ON_RING}
-use Rattle.pg_draw.specs.declared.measures.TheConstants.{ROW, TOP}
-use Rattle.pg_draw.specs.declared.vertices.Plan.{Plan}
+use Rattle.pg_draw.specs.declared.measures.TheConstants.{MAX_COUNTED_LETTERS}
 
 -- ---- how far a board reaches
 

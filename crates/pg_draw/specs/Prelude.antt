@@ -6,9 +6,20 @@ pub use Rattle.pg_picture.specs.declared.picture.Picture.{Picture}
 pub use Rattle.pg_picture.specs.declared.shape.Place.{Place}
 pub use Rattle.pg_picture.specs.declared.shape.Shape.{Shape}
 pub use Rattle.pg_picture.specs.declared.shape.Shape.TheVariants.{Bow, Disc, Square, Stroke, Words}
+pub use Rattle.pg_places.specs.Courses.{bend_of, courses_behind, farther, farthest, have_same_ends}
+pub use Rattle.pg_places.specs.Courses.{middle_of, place_of_edge}
+pub use Rattle.pg_places.specs.Places.{IsPlan, IsWithin, at, column_of, columns_of, lower, part_of}
+pub use Rattle.pg_places.specs.Places.{place_by, place_of_end, place_on_ring, radius_of, row_of}
+pub use Rattle.pg_places.specs.Places.{upper_left, upper_right}
+unfoldable pub use Rattle.pg_places.specs.Places.{place_on_bridge, place_on_circle, place_on_grid}
+pub use Rattle.pg_places.specs.declared.course.Course.{Course}
+pub use Rattle.pg_places.specs.declared.course.Course.TheVariants.{Around, Bent, Straight}
+pub use Rattle.pg_places.specs.declared.measures.TheConstants.{APART, CELL, HALF, MARGIN}
+pub use Rattle.pg_places.specs.declared.measures.TheConstants.{MAX_ON_RING, ROW, TOP}
+pub use Rattle.pg_places.specs.declared.vertices.Plan.{Plan}
 pub use Rattle.pg_scene.specs.Limits.{IsBoard, points_on, vertices_on}
 pub use Rattle.pg_scene.specs.declared.board.Board.{Board}
 pub use Rattle.pg_scene.specs.declared.board.Board.TheVariants.{Graph, Grid, Ring}
 pub use Rattle.pg_scene.specs.declared.item.Item.{Item}
 pub use Rattle.pg_scene.specs.declared.scene.Scene.{Scene}
-pub use Rattle.std.specs.List.{count_by, flat_map, range_with_len}
+pub use Rattle.std.specs.List.{flat_map, range_with_len}

@@ -7,24 +7,21 @@ use Rattle.pg_base.specs.declared.side.Side.TheVariants.{X, Y}
 use Rattle.pg_picture.specs.declared.paint.Paint.{Paint}
 use Rattle.pg_picture.specs.declared.paint.Paint.TheVariants as paints
 use Rattle.pg_draw.specs.Prelude.{Place, Shape, Square, Disc, Stroke, Bow, Words, Board, Grid, Ring}
-use Rattle.pg_draw.specs.Prelude.{Graph, Item}
+use Rattle.pg_draw.specs.Prelude.{Graph, Item, bend_of, courses_behind, have_same_ends, middle_of}
+use Rattle.pg_draw.specs.Prelude.{place_of_edge, at, lower, place_of_end, place_on_bridge}
+use Rattle.pg_draw.specs.Prelude.{place_on_grid, place_on_ring, upper_left, upper_right, Course}
+use Rattle.pg_draw.specs.Prelude.{Straight, Bent, Around, CELL, HALF, Plan}
 use Rattle.pg_scene.specs.declared.item.Item.TheVariants as items
 use Rattle.pg_scene.specs.declared.item.Set.{Set}
 use Rattle.pg_scene.specs.declared.item.Set.TheVariants as sets
-use Rattle.pg_draw.specs.Courses.{bend_of, courses_behind, have_same_ends, middle_of, place_of_edge}
-use Rattle.pg_draw.specs.Places.{at, lower, place_of_end, place_on_bridge, place_on_grid}
-use Rattle.pg_draw.specs.Places.{place_on_ring, upper_left, upper_right}
-use Rattle.pg_draw.specs.declared.course.Course.{Course}
-use Rattle.pg_draw.specs.declared.course.Course.TheVariants.{Straight, Bent, Around}
-use Rattle.pg_draw.specs.declared.measures.TheConstants.{BADGE_RADIUS, BADGE_RIGHT, BADGE_UP, CELL}
+use Rattle.pg_draw.specs.declared.measures.TheConstants.{BADGE_RADIUS, BADGE_RIGHT, BADGE_UP}
 use Rattle.pg_draw.specs.declared.measures.TheConstants.{CELL_MARK_DOWN, CELL_NUMBER_LEFT}
 use Rattle.pg_draw.specs.declared.measures.TheConstants.{CELL_NUMBER_UP, CHILD_RADIUS, CROSS_BOTTOM}
 use Rattle.pg_draw.specs.declared.measures.TheConstants.{CROSS_LEFT, CROSS_RIGHT, CROSS_TOP}
-use Rattle.pg_draw.specs.declared.measures.TheConstants.{DISC_MARK_DOWN, DISC_NUMBER_UP, HALF}
+use Rattle.pg_draw.specs.declared.measures.TheConstants.{DISC_MARK_DOWN, DISC_NUMBER_UP}
 use Rattle.pg_draw.specs.declared.measures.TheConstants.{LINE_DOT_RADIUS, LOOP_RADIUS}
 use Rattle.pg_draw.specs.declared.measures.TheConstants.{MEMBER_RADIUS, NOTE_DOWN, PAIR_DOT_RADIUS}
 use Rattle.pg_draw.specs.declared.measures.TheConstants.{POINT_RADIUS, VERTEX_RADIUS}
-use Rattle.pg_draw.specs.declared.vertices.Plan.{Plan}
 
 -- ---- paints
 

@@ -1,23 +1,18 @@
 //! Scenes as pictures.
-ghost use Rattle.std.specs.Prelude.{◌≡◌, ◌++◌, ◌+◌, ◌≤◌, OnOk, IfOk, length};
-ghost use Rattle.pg_draw.specs.Prelude.{flat_map, range_with_len, IsBoard};
-ghost use Rattle.pg_draw.specs.Places.{IsPlan};
+ghost use Rattle.std.specs.Prelude.{◌≡◌, ◌++◌, ◌≤◌, OnOk, IfOk, length};
+ghost use Rattle.pg_draw.specs.Prelude.{flat_map, range_with_len, IsBoard, IsPlan};
 ghost use Rattle.pg_draw.specs.Shapes.{bar_shapes, vertex_paint, vertex_shapes, vertices_shapes};
 ghost use Rattle.pg_draw.specs.Pictures.{legend_shapes, picture_of, shapes_of, width_of};
 ghost use Rattle.pg_scene.specs.declared.lines.TheConstants.{MAX_LEGEND_LINES};
 
 use crate::boards::courses_of;
-use crate::bridge::place_on_bridge;
-use crate::courses::Courses;
 use crate::items::push_items;
-use crate::measures::{
-    HEADING_DOWN, HEADING_LETTER, LEADING, MARGIN, MAX_CORNER_REACH, VERTEX_RADIUS,
-};
+use crate::measures::{HEADING_DOWN, HEADING_LETTER, LEADING, MAX_CORNER_REACH, VERTEX_RADIUS};
 use crate::size::{far_corner, text_width, widest};
-use crate::vertices::Plan;
 use crate::words::{push_number, push_words, text_of};
 use pg_base::Memory;
 use pg_picture::{Paint, Picture, Place, Shape, Shapes};
+use pg_places::{Courses, MARGIN, Plan, place_on_bridge};
 use pg_scene::{Board, Scene, Text};
 use std::alloc::Global;
 

@@ -1,25 +1,24 @@
 //! The shapes of items.
 ghost use Rattle.std.specs.Prelude.{◌≡◌, ◌≤◌, ◌++◌, OnOk, length};
-ghost use Rattle.pg_draw.specs.Prelude.{flat_map, IsBoard, MAX_EDGES};
-ghost use Rattle.pg_draw.specs.Places.{IsPlan, IsWithin};
+ghost use Rattle.pg_draw.specs.Prelude.{flat_map, IsBoard, MAX_EDGES, IsPlan, IsWithin};
 ghost use Rattle.pg_draw.specs.Shapes.{badge_shapes, extra_shapes, fault_shapes, item_shapes};
 ghost use Rattle.pg_draw.specs.Shapes.{line_shapes, member_shapes, pair_shapes, part_shapes};
 ghost use Rattle.pg_draw.specs.Shapes.{place_of, reached_shapes, further_edge_shapes};
 ghost use Rattle.pg_draw.specs.Shapes.{weight_shapes};
 
-use crate::boards::{lower, place_of, upper_right};
-use crate::course::{Course, bend_of, middle_of, parallels};
-use crate::courses::Courses;
+use crate::boards::place_of;
 use crate::marks::{push_edge, push_point};
 use crate::measures::{
     BADGE_RADIUS, BADGE_RIGHT, BADGE_UP, CHILD_RADIUS, CROSS_BOTTOM, CROSS_LEFT, CROSS_RIGHT,
-    CROSS_TOP, LINE_DOT_RADIUS, MAX_MIDDLE_REACH, MEMBER_RADIUS, NOTE_DOWN, PAIR_DOT_RADIUS,
+    CROSS_TOP, LINE_DOT_RADIUS, MEMBER_RADIUS, NOTE_DOWN, PAIR_DOT_RADIUS,
 };
 use crate::paints::{pair_paint, set_paint};
-use crate::vertices::Plan;
 use crate::words::{push_child, push_number, push_words};
 use pg_base::Memory;
 use pg_picture::{Paint, Place, Shape};
+use pg_places::{
+    Course, Courses, MAX_MIDDLE_REACH, Plan, bend_of, lower, middle_of, parallels, upper_right,
+};
 use pg_scene::{Board, Item, Set, Text};
 use std::alloc::Global;
 

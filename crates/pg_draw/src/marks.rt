@@ -1,20 +1,19 @@
 //! The shapes of points.
 ghost use Rattle.std.specs.Prelude.{◌≡◌, ◌++◌, OnOk};
-ghost use Rattle.pg_draw.specs.Places.{IsWithin};
+ghost use Rattle.pg_draw.specs.Prelude.{IsWithin};
 ghost use Rattle.pg_draw.specs.Shapes.{cell_shapes, course_shape, disc_shapes, edge_shapes};
 ghost use Rattle.pg_draw.specs.Shapes.{mark_shapes, point_shapes};
 
-use crate::boards::{lower, place_of, upper_left};
-use crate::course::Course;
-use crate::courses::Courses;
+use crate::boards::place_of;
 use crate::measures::{
-    CELL, CELL_MARK_DOWN, CELL_NUMBER_LEFT, CELL_NUMBER_UP, DISC_MARK_DOWN, DISC_NUMBER_UP, HALF,
-    LOOP_RADIUS, MAX_MIDDLE_REACH, POINT_RADIUS,
+    CELL_MARK_DOWN, CELL_NUMBER_LEFT, CELL_NUMBER_UP, DISC_MARK_DOWN, DISC_NUMBER_UP, LOOP_RADIUS,
+    POINT_RADIUS,
 };
 use crate::paints::{edge_paint, point_paint};
 use crate::words::{push_number, push_words};
 use pg_base::{Memory, Side};
 use pg_picture::{Paint, Place, Shape};
+use pg_places::{CELL, Course, Courses, HALF, MAX_MIDDLE_REACH, lower, upper_left};
 use pg_scene::Board;
 use std::alloc::Global;
 

@@ -1,32 +1,5 @@
 //! The measures of pictures, in units.
 
-/// The side of a cell.
-pub(crate) const CELL: u32 = 48;
-
-/// Half the side of a cell.
-pub(crate) const HALF: u32 = 24;
-
-/// How far a board is from the left side of its picture.
-pub(crate) const MARGIN: u32 = 24;
-
-/// How far a board is from the top of its picture.
-pub(crate) const TOP: u32 = 48;
-
-/// How far apart the vertices of a Bridg-It board are.
-pub(crate) const APART: u32 = 64;
-
-/// How much further from its ends each further edge between the same ends is bent.
-pub(crate) const BEND: u32 = 36;
-
-/// How far apart the loops at one vertex are.
-pub(crate) const LOOP: u32 = 30;
-
-/// The most points that lie on a circle.
-pub(crate) const MAX_ON_RING: u32 = 48;
-
-/// How many points lie in a row where there are more.
-pub(crate) const ROW: u32 = 16;
-
 /// How far apart the lines of the legend are.
 pub(crate) const LEADING: u32 = 18;
 
@@ -102,38 +75,8 @@ pub(crate) const CROSS_TOP: u32 = 22;
 /// How far from the top of its picture the cross of a fault ends.
 pub(crate) const CROSS_BOTTOM: u32 = 34;
 
-/// The furthest that something stands beside its place.
-pub(crate) const MAX_SHIFT: u32 = 100;
-
-/// How many steps a quarter of a turn has.
-pub(crate) const QUARTER: u32 = 128;
-
-/// How many steps a turn has.
-pub(crate) const TURN: u32 = 512;
-
-/// The sine of a quarter of a turn in the table of sines.
-pub(crate) const SINE_OF_QUARTER: u32 = 10_000;
-
-/// How much the radius of a circle grows with each that lies on it.
-pub(crate) const SPREAD: u32 = 8;
-
-/// The least radius of a circle.
-pub(crate) const MIN_RADIUS: u32 = 100;
-
-/// The greatest radius of a circle.
-pub(crate) const MAX_RADIUS: u32 = 4_000;
-
-/// Both numbers of a place on a circle are below this.
-pub(crate) const MAX_CIRCLE_REACH: u32 = 131_072;
-
 /// Both numbers of the corner of a board without its edges are below this.
 pub(crate) const MAX_BOARD_REACH: u32 = 100_000;
-
-/// Both numbers of the place of a vertex, or of a point on a board without edges, are below this.
-pub(crate) const MAX_END_REACH: u32 = 4_194_304;
-
-/// Both numbers of the middle of an edge are below this.
-pub(crate) const MAX_MIDDLE_REACH: u32 = 4_300_000;
 
 /// Both numbers of the corner of a board with its edges are below this.
 pub(crate) const MAX_CORNER_REACH: u32 = 4_400_000;

@@ -1,19 +1,18 @@
 //! The size of pictures.
 ghost use Rattle.std.specs.Prelude.{◌≡◌, ◌≤◌, ◌<◌};
-ghost use Rattle.pg_draw.specs.Prelude.{IsBoard, MAX_POINTS, MAX_VERTICES, MAX_BRIDGE_ROWS};
-ghost use Rattle.pg_draw.specs.Places.{IsPlan, IsWithin};
+ghost use Rattle.pg_draw.specs.Prelude.{IsBoard, MAX_POINTS, MAX_VERTICES, MAX_BRIDGE_ROWS, IsPlan};
+ghost use Rattle.pg_draw.specs.Prelude.{IsWithin};
 ghost use Rattle.pg_draw.specs.Pictures.{bridge_reach, circle_reach, far_corner, plan_reach};
 ghost use Rattle.pg_draw.specs.Pictures.{reach_of, row_reach, text_width, widest};
 
-use crate::bridge::columns_of;
-use crate::circle::radius_of;
-use crate::courses::Courses;
 use crate::measures::{
-    APART, CELL, HALF, LEGEND_LETTER, MARGIN, MAX_BOARD_REACH, MAX_CORNER_REACH,
-    MAX_COUNTED_LETTERS, MAX_LETTER_WIDTH, MAX_ON_RING, MAX_TEXT_WIDTH, ROW, TOP,
+    LEGEND_LETTER, MAX_BOARD_REACH, MAX_CORNER_REACH, MAX_COUNTED_LETTERS, MAX_LETTER_WIDTH,
+    MAX_TEXT_WIDTH,
 };
-use crate::vertices::Plan;
 use pg_picture::Place;
+use pg_places::{
+    APART, CELL, Courses, HALF, MARGIN, MAX_ON_RING, Plan, ROW, TOP, columns_of, radius_of,
+};
 use pg_scene::{Board, Text};
 
 /// How far a circle reaches on which so many lie.

@@ -9,7 +9,7 @@ pub use Rattle.pg_base.specs.declared.side.Side.{Side}
 pub use Rattle.pg_game.specs.Field.{field_points}
 pub use Rattle.pg_game.specs.Fit.{AreBelow, AreLinesOf, IsBoard, IsFit, IsLineOf, ShareNone}
 pub use Rattle.pg_game.specs.Fit.{greatest_bias, is_switching, longest}
-pub use Rattle.pg_game.specs.declared.bounds.TheConstants.{MAX_BIAS, MAX_LINES, MAX_LINE_POINTS}
+pub use Rattle.pg_game.specs.declared.bounds.TheConstants.{MAX_BIAS, MAX_LINES}
 pub use Rattle.pg_game.specs.declared.bounds.TheConstants.{MAX_POINTS, MAX_SUMMED_POINTS}
 pub use Rattle.pg_game.specs.declared.bounds.TheConstants.{MAX_VERTICES}
 pub use Rattle.pg_game.specs.declared.field.Field.{Field}

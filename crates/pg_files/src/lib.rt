@@ -3,10 +3,14 @@
 
 mod draft;
 mod fault;
+mod field;
+mod frame;
 mod key;
 mod laws;
 mod limits;
 mod line;
+mod parts;
+mod position;
 mod printing;
 mod reading;
 mod sets;
@@ -14,7 +18,7 @@ mod sets;
 pub use fault::Fault;
 pub use laws::{first_fault_is_told, printed_game_is_read, what_is_read_fits};
 pub use limits::MAX_GAME_BYTES;
-pub use line::{begins_comment, is_printable, two_numbers};
+pub use parts::{begins_comment, is_printable, two_numbers};
 pub use pg_text::FileError as GameFault;
 pub use printing::{print_game, put_edges, put_last, put_numbers};
 pub use reading::read_game;

@@ -1,0 +1,3 @@
+mod Common
+mod Apart
+pub mod Circles

@@ -1,0 +1,3 @@
+pub mod Prelude
+pub mod Places
+pub mod Courses

@@ -1,0 +1,6 @@
+-- What the definitions of this crate name of std and of the crates below.
+pub use Rattle.pg_base.specs.declared.limits.TheConstants.{MAX_EDGES}
+pub use Rattle.pg_game.specs.declared.bounds.TheConstants.{MAX_VERTICES}
+pub use Rattle.pg_gen.specs.declared.limits.TheConstants.{MAX_BRIDGE_ROWS}
+pub use Rattle.pg_picture.specs.declared.shape.Place.{Place}
+pub use Rattle.std.specs.List.{count_by}

@@ -1,0 +1,32 @@
+//! Laws of places. Each function is empty: what it promises is a law of the definitions alone.
+ghost use Rattle.std.specs.Prelude.{◌≡◌, ◌≤◌, ◌<◌, ℕ};
+ghost use Rattle.pg_places.specs.Prelude.{MAX_VERTICES};
+ghost use Rattle.pg_places.specs.Places.{place_on_bridge, place_on_circle, place_on_grid};
+ghost use Rattle.pg_places.specs.Places.{place_on_ring};
+
+/// Different points of a board of squares lie at different places.
+pub fn cells_lie_apart()
+    ensures { (width v w : ℕ) → place_on_grid width v ≡ place_on_grid width w → v ≡ w }
+{}
+
+/// Different vertices of a Bridg-It board lie at different places.
+pub fn bridge_vertices_lie_apart()
+    ensures { (rows u v : ℕ) → place_on_bridge rows u u ≡ place_on_bridge rows v v → u ≡ v }
+{}
+
+/// Different members of a circle lie at different places.
+pub fn members_of_circles_lie_apart()
+    ensures { (count u v : ℕ) → count ≤ MAX_VERTICES
+        → u < count
+        → v < count
+        → place_on_circle count u ≡ place_on_circle count v
+        → u ≡ v }
+{}
+
+/// Different points that have no place of their own lie at different places.
+pub fn points_of_rings_lie_apart()
+    ensures { (points u v : ℕ) → u < points
+        → v < points
+        → place_on_ring points u ≡ place_on_ring points v
+        → u ≡ v }
+{}

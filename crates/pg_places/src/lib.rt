@@ -1,0 +1,23 @@
+//! Places in pictures: where cells, the members of circles and the vertices of graphs lie, and how
+//! edges run.
+#![tactic(auto)]
+
+mod bridge;
+mod circle;
+mod course;
+mod courses;
+mod grid;
+pub mod laws;
+mod measures;
+mod shifts;
+mod sines;
+mod vertices;
+
+pub use bridge::{columns_of, place_on_bridge};
+pub use circle::{place_on_ring, radius_of};
+pub use course::{Course, bend_of, middle_of, parallels};
+pub use courses::Courses;
+pub use grid::place_on_grid;
+pub use measures::{APART, CELL, HALF, MARGIN, MAX_MIDDLE_REACH, MAX_ON_RING, ROW, TOP};
+pub use shifts::{lower, upper_left, upper_right};
+pub use vertices::Plan;
