@@ -82,7 +82,7 @@ leads text count value begun some first =
       spells = rw (a, b, d, e) (ap Some (sym begun.value));
     }
 
-split : (text : Bytes) (count b : ℕ)
+pub split : (text : Bytes) (count b : ℕ)
     → count < length text
     → get_or text count 0 ≡ b
     → text ≡ take count text ++ b ∷ take (length text - (count + 1)) (drop (count + 1) text)

@@ -5,5 +5,6 @@ pub mod OnlyNumbers
 pub mod Words
 pub mod NodeBack
 pub mod DigitRuns
+mod NearCuts
 pub mod Gathering
 pub mod Outlines

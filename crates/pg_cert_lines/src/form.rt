@@ -1,14 +1,15 @@
 //! The form of a node line, save for its numbers.
 
-ghost use Rattle.std.specs.Prelude.{◌≡◌, ◌==◌, option_map};
-ghost use Rattle.pg_cert_lines.specs.Prelude.{list_any, two_parts, pair_of, words_of};
+ghost use Rattle.std.specs.Prelude.{◌≡◌, ◌==◌, ◌++◌, ◌∷◌, IfSome, IfNone, option_map};
+ghost use Rattle.pg_cert_lines.specs.Prelude.{list_any, two_parts, four_parts, pair_of, words_of};
+ghost use Rattle.pg_cert_lines.specs.Prelude.{BAR, Lacks};
 ghost use Rattle.pg_cert_lines.specs.Form.{named_form, form_of, are_none, only_word, are_odd};
 ghost use Rattle.pg_cert_lines.specs.Form.{each_has_one, is_slash, has_one_slash};
 ghost use Rattle.pg_cert_lines.specs.Outline.{outline_of};
 
 use crate::turn::{Turn, turn_of};
 use pg_cert::Version;
-use pg_text::{Words, first_word, four_parts, two_parts};
+use pg_text::{Words, cut_at, first_word, two_parts};
 
 /// The nine bodies of a node line.
 #[derive(Clone, Copy, Debug, PartialEq, Eq)]
@@ -165,6 +166,49 @@ pub(crate) fn has_one_slash(words: Words) -> bool
     false
 }
 
+/// What stands before the first sign, and what after it, at once where the sign is the second byte.
+#[tactic(auto, using(crate::proofs::NearCuts::near_found))]
+fn cut_near(sign: u8, text: &[u8]) -> Option<(&[u8], &[u8])>
+    ensures found { IfSome result
+        (λ p. (text.now ≡ p.0.now ++ sign ∷ p.1.now) × Lacks sign p.0.now) }
+    ensures none { IfNone result (Lacks sign text.now) }
+{
+    if text.len() > 1 && text[0] != sign && text[1] == sign {
+        return Some((&text[..1], &text[2..]));
+    }
+    cut_at(sign, text)
+}
+
+/// What stands on both sides of the one sign, which may well be the second byte.
+#[tactic(auto, using(crate::proofs::NearCuts::two_none, crate::proofs::NearCuts::two_just, crate::proofs::NearCuts::two_many))]
+fn two_near(sign: u8, text: &[u8]) -> Option<(&[u8], &[u8])>
+    ensures { option_map (λ p. (p.0.now, p.1.now)) result ≡ two_parts sign text.now }
+{
+    let Some((first, second)) = cut_near(sign, text) else {
+        return None;
+    };
+    match cut_at(sign, second) {
+        Some(_) => None,
+        None => Some((first, second)),
+    }
+}
+
+/// The four fields of a node line, of which the third has one byte or two.
+#[tactic(auto, using(crate::proofs::NearCuts::four_of_none, crate::proofs::NearCuts::four_of_one, crate::proofs::NearCuts::four_of_two, crate::proofs::NearCuts::four_of_three))]
+fn fields_of(line: &[u8]) -> Option<(&[u8], &[u8], &[u8], &[u8])>
+    ensures { option_map (λ p. record {
+      first = p.0.now;
+      second = p.1.now;
+      third = p.2.now;
+      fourth = p.3.now;
+    }) result ≡ four_parts BAR line.now }
+{
+    let (x, behind) = cut_at(b'|', line)?;
+    let (y, others) = cut_at(b'|', behind)?;
+    let (turn, body) = two_near(b'|', others)?;
+    Some((x, y, turn, body))
+}
+
 /// The outline of a line in the version: its fields and its body's words, whose form isn't tested
 /// yet.
 #[tactic(auto, unfolding(crate::specs::Outline::outline_of))]
@@ -177,7 +221,7 @@ pub(crate) fn outline_of(version: Version, line: &[u8]) -> Option<Outline>
       words = words_of (option_map (λ w. w.now) s.words);
     }) result ≡ outline_of version line.now }
 {
-    let (x, y, turn, body) = four_parts(b'|', line)?;
+    let (x, y, turn, body) = fields_of(line)?;
     let turn = turn_of(turn)?;
     let (name, words) = first_word(body);
     let form = form_of(version, name)?;

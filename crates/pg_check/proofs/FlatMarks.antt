@@ -4,7 +4,7 @@ use Rattle.pg_check.proofs.Common.{append_assoc, append-nil, length-append, leng
 use Rattle.pg_check.proofs.Common.{length-drop, get_or_append_left, get_or-append-add, get_or-drop}
 use Rattle.pg_check.proofs.Common.{get_or-take, slice_get-get_or, slice_get_within, AreBelow}
 use Rattle.pg_check.proofs.Common.{word_of, words_of, word_below-lt, word_of-members}
-use Rattle.pg_check.proofs.Common.{members-of_words, members-same, is_same_side, Side, X, Y}
+use Rattle.pg_check.proofs.Common.{members-of_words, members-same}
 use Rattle.pg_check.proofs.Common.{point_count, Game, Position}
 use lib.Pointwise.{pointwise}
 use Rattle.std.proofs.Common.{Bool, true, false, IsTrue, nat_eq, zero, ◌≡◌, ◌∙◌, ℕ, suc, ◌+◌, ◌*◌}

@@ -1,9 +1,9 @@
 -- Marks that are points of a game, by the words of their sets.
-use Rattle.std.proofs.Common.{◌≡◌, ◌∙◌, ℕ, ◌+◌, ◌*◌, ◌<◌, ◌≤◌, List, get_or, bit_and, bit_or, refl}
+use Rattle.std.proofs.Common.{◌≡◌, ◌∙◌, ℕ, ◌+◌, ◌<◌, ◌≤◌, List, get_or, bit_and, bit_or}
 use Rattle.std.proofs.Common.{sym, ap₂, subst, subst₂, inl, inr, arith, lt-ltb, w64}
 use Rattle.std.specs.Int.{bit_not}
 use Rattle.std.proofs.lemmas.Nat.{le_or_l, le_or_r}
-use Rattle.pg_check.proofs.Common.{AreBelow, AreWithin, FinSet, Game, cases_eq, contains, ltb-true}
+use Rattle.pg_check.proofs.Common.{AreBelow, AreWithin, FinSet, Game, cases_eq, ltb-true}
 use Rattle.pg_check.proofs.Common.{nat_cmp, point_count, words_of}
 use Rattle.pg_check.specs.Tester.{AreInside, ArePointsOf}
 use Rattle.pg_check.proofs.FlatMarks.{fit-set}

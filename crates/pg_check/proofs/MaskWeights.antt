@@ -1,17 +1,18 @@
 -- The weights of lines by their masks.
-use Rattle.std.proofs.Common.{◌≡◌, ◌∙◌, ◌==◌, ℕ, zero, suc, ◌+◌, ◌-◌, ◌*◌, ◌/◌, ◌^◌, ◌<◌, ◌≤◌, Bool}
-use Rattle.std.proofs.Common.{true, false, not, cond, ◌&&◌, ◌||◌, List, [], ◌∷◌, length, map, get_or}
-use Rattle.std.proofs.Common.{Option, Some, None, slice_get, refl, sym, ap, eqb-true, inl, inr, arith}
+use Rattle.std.proofs.Common.{◌≡◌, ◌∙◌, ◌==◌, ℕ, ◌-◌, ◌*◌, ◌^◌, ◌<◌, ◌≤◌, Bool}
+use Rattle.std.proofs.Common.{true, false, not, cond, ◌&&◌, List, [], ◌∷◌, length, map}
+use Rattle.std.proofs.Common.{get_or}
+use Rattle.std.proofs.Common.{Option, Some, None, slice_get, refl, sym, ap, eqb-true, inl, inr}
+use Rattle.std.proofs.Common.{arith}
 use Rattle.std.specs.Prelude.{option_map}
 use Rattle.std.proofs.lemmas.Bool.{or_parts}
 use Rattle.std.proofs.lemmas.List.Sums.{sum_by-cons}
-use Rattle.pg_game.specs.Fit.{IsLineOf}
 use Rattle.pg_game.specs.Potential.{line_weight}
 use Rattle.pg_game.proofs.LineSums.{line_weight-touched, line_weight-clear}
 use Rattle.std.specs.List.{All}
 use Rattle.pg_check.proofs.Common.{AreBelow, Contains, FinSet, Game, IsPosition, Position}
 use Rattle.pg_check.proofs.Common.{ShareNone, Side, X, Y, contains, count_by, in_from_list}
-use Rattle.pg_check.proofs.Common.{is_free, is_touched, list_any-none, member-from_any, nat_cmp}
+use Rattle.pg_check.proofs.Common.{is_free, list_any-none, member-from_any, nat_cmp}
 use Rattle.pg_check.proofs.Common.{point_count, points_of, slice_get-get_or, slice_get-map}
 use Rattle.pg_check.proofs.Common.{Contains-head, Contains-tail, or_cases}
 use Rattle.pg_check.specs.Masks.{AreMarked, AreMasks, IsFreeOf, set_of, weight_of}

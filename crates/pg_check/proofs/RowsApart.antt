@@ -1,5 +1,6 @@
--- Sets in rows of words: they have no point in common where no word of one has a bit of the other's.
-use Rattle.std.proofs.Common.{Bool, true, false, ◌&&◌, ◌≡◌, ◌∙◌, ℕ, ◌+◌, ◌*◌, ◌/◌, ◌%◌, ◌^◌, ◌<◌}
+-- Sets in rows of words: they have no point in common where no word of one has a bit of the
+-- other's.
+use Rattle.std.proofs.Common.{Bool, true, false, ◌&&◌, ◌≡◌, ◌∙◌, ℕ, ◌+◌, ◌*◌, ◌/◌, ◌%◌, ◌<◌}
 use Rattle.std.proofs.Common.{List, get_or, bit_and, nat_eq, refl, sym, ap, arith}
 use Rattle.pg_check.proofs.Common.{contains, ShareNone, members_below, bit_test, bit_test-and}
 use Rattle.pg_check.proofs.Common.{zero-from_tests}

@@ -1,5 +1,5 @@
-use Rattle.std.proofs.Common.{◌≡◌, ◌≤◌, eq-eqb, eqb-true, sym, arith}
-use Rattle.pg_check.proofs.Common.{point_count, words_of}
+use Rattle.std.proofs.Common.{◌≤◌, eq-eqb, eqb-true, sym, arith}
+use Rattle.pg_check.proofs.Common.{point_count}
 use Rattle.pg_check.proofs.GamePoints.{points-inside, inside-points, inside-same}
 use Rattle.pg_check.proofs.allowed.are_points.Goals as goal
 

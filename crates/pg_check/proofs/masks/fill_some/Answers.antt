@@ -2,7 +2,6 @@ use Rattle.std.proofs.Common.{◌≡◌, ◌<◌, ◌∙◌, List, ℕ, [], leng
 use Rattle.std.proofs.Common.{inl, inr, arith}
 use Rattle.pg_check.proofs.Common.{AreWithin, Contains-get_or, FinSet, nat_cmp, is_filled}
 use Rattle.pg_check.proofs.Common.{false≢true, cases_Bool, get_or_default, list_any-one}
-use Rattle.pg_check.specs.Masks.{set_of}
 use Rattle.pg_check.proofs.LineMasks.{masks-many, mask-at, filled-from_set, set-from_filled}
 use Rattle.pg_check.proofs.LineMasks.{list_any-at_none}
 use Rattle.pg_check.proofs.ReplyLemmas.{each-more}

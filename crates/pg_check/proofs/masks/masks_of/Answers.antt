@@ -1,4 +1,4 @@
-use Rattle.std.proofs.Common.{◌≡◌, ◌+◌, ◌∷◌, ◌++◌, [], List, ap, subst, sym, take}
+use Rattle.std.proofs.Common.{◌+◌, List, subst, sym, take}
 use Rattle.pg_check.specs.Masks.{AreMasks}
 use Rattle.pg_check.specs.declared.masks.Mask.{Mask}
 use Rattle.pg_check.proofs.LineMasks.{masks-more, masks-all}

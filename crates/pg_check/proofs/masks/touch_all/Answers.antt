@@ -1,8 +1,7 @@
-use Rattle.std.proofs.Common.{◌≡◌, ◌<◌, ◌∙◌, List, ℕ, [], length, get_or, true, false, sym, subst}
+use Rattle.std.proofs.Common.{◌≡◌, ◌<◌, ◌∙◌, List, ℕ, [], length, get_or, true, sym, subst}
 use Rattle.std.proofs.Common.{inl, inr, arith}
 use Rattle.pg_check.proofs.Common.{ShareNone, Contains-get_or, FinSet, nat_cmp, is_touched}
 use Rattle.pg_check.proofs.Common.{false≢true, cases_Bool, get_or_default, list_all, true-at}
-use Rattle.pg_check.specs.Masks.{set_of}
 use Rattle.pg_check.proofs.LineMasks.{masks-many, mask-at, untouched-from_set, set-from_untouched}
 use Rattle.pg_check.proofs.LineMasks.{list_all-at_each}
 use Rattle.pg_check.proofs.ReplyLemmas.{each-more}

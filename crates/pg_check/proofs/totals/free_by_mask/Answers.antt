@@ -1,6 +1,5 @@
-use Rattle.std.proofs.Common.{◌≡◌, ◌∙◌, Some, ℕ, length, sym, subst, arith}
-use Rattle.pg_check.proofs.Common.{FinSet, ShareNone, nat_cmp, points_of}
-use Rattle.pg_check.specs.Masks.{IsFreeOf}
+use Rattle.std.proofs.Common.{◌≡◌, ◌∙◌, length, sym, subst, arith}
+use Rattle.pg_check.proofs.Common.{FinSet, ShareNone, nat_cmp}
 use Rattle.pg_check.proofs.MaskWeights.{clear-of}
 use Rattle.pg_check.proofs.totals.free_by_mask.Goals as goal
 

@@ -1,4 +1,4 @@
-use Rattle.std.proofs.Common.{◌≡◌, ◌∙◌, get_or, ap, sym}
+use Rattle.std.proofs.Common.{◌∙◌, get_or, ap, sym}
 use Rattle.pg_check.proofs.Common.{Contains-get_or, contains, count_by, is_free, is_touched}
 use Rattle.pg_check.proofs.Common.{list_any-one, take_all}
 use Rattle.pg_check.proofs.totals.free_without.Goals as goal

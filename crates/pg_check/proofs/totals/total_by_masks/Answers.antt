@@ -1,6 +1,6 @@
-use Rattle.std.proofs.Common.{◌≡◌, ◌∙◌, ◌+◌, ◌*◌, ◌/◌, ◌<◌, ◌≤◌, ℕ, List, [], length, get_or, take}
+use Rattle.std.proofs.Common.{◌∙◌, ◌+◌, ◌*◌, ◌/◌, ◌<◌, ◌≤◌, ℕ, List, [], length, get_or}
 use Rattle.std.proofs.Common.{refl, sym, ap, subst, arith}
-use Rattle.std.specs.List.{All, sum_by}
+use Rattle.std.specs.List.{All}
 use Rattle.std.proofs.lemmas.List.Sums.{sum_by_more}
 use Rattle.pg_game.specs.Fit.{IsLineOf}
 use Rattle.pg_game.specs.Potential.{greatest_length, line_weight, total_weight}
@@ -9,7 +9,7 @@ use Rattle.pg_game.proofs.WeightBounds.{IsBaseOf-bias, greatest_length-few, tota
 use Rattle.pg_check.proofs.Common.{AreBelow, FinSet, lines_of, nat_cmp, point_count, points_of}
 use Rattle.pg_check.specs.Masks.{set_of}
 use Rattle.pg_check.proofs.LineMasks.{masks-many, mask-at}
-use Rattle.pg_check.proofs.MaskWeights.{line-at, line-below, marks-below, weight-is}
+use Rattle.pg_check.proofs.MaskWeights.{line-at, line-below, weight-is}
 use Rattle.pg_check.proofs.totals.total_by_masks.Goals as goal
 
 pub free_by_mask-free-requires-clause-range : goal.free_by_mask-free-requires-clause-range

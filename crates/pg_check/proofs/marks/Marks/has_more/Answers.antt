@@ -1,6 +1,5 @@
-use Rattle.std.proofs.Common.{◌≡◌, ◌*◌, ◌∙◌, ap, sym, subst}
+use Rattle.std.proofs.Common.{◌*◌, ◌∙◌, sym, subst}
 use Rattle.pg_check.proofs.Common.{AreBelow, FinSet, nat_cmp}
-use Rattle.pg_check.specs.Marks.{set_at}
 use Rattle.pg_check.proofs.marks.Marks.has_more.Goals as goal
 
 pub has_set-requires-clause-below : goal.has_set-requires-clause-below
