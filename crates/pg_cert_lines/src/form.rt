@@ -1,7 +1,7 @@
 //! The form of a node line, save for its numbers.
 
-ghost use Rattle.std.specs.Prelude.{◌≡◌, ◌==◌, option_map};
-ghost use Rattle.pg_cert_lines.specs.Prelude.{list_any, two_parts, pair_of, words_of};
+ghost use Rattle.std.specs.Prelude.{◌≡◌, option_map};
+ghost use Rattle.pg_cert_lines.specs.Prelude.{list_any, pair_of, words_of};
 ghost use Rattle.pg_cert_lines.specs.Form.{named_form, form_of, are_none, only_word, are_odd};
 ghost use Rattle.pg_cert_lines.specs.Form.{each_has_one, is_slash, has_one_slash};
 ghost use Rattle.pg_cert_lines.specs.Outline.{outline_of};
