@@ -1,6 +1,6 @@
 -- What the proofs of this crate name of std and of the crates below.
 pub use Rattle.pg_cert_files.specs.Prelude.{AllByRecursion, BeginCert, Bytes, Cert, Claim, Fault}
-pub use Rattle.pg_cert_files.specs.Prelude.{FileError, FinSet, Four, Gives, HYPHEN, Head, IsClaim}
+pub use Rattle.pg_cert_files.specs.Prelude.{FileError, FinSet, Gives, HYPHEN, Head, IsClaim}
 pub use Rattle.pg_cert_files.specs.Prelude.{IsNode, IsOfVersion, IsReadAs, IsWithinLimits, Lacks}
 pub use Rattle.pg_cert_files.specs.Prelude.{LineError, MAX_MEMBERS, Node, One, Pair, Part, Shape}
 pub use Rattle.pg_cert_files.specs.Prelude.{Side, Two, Vec, Version, X, all_parts, and_then}
@@ -9,7 +9,7 @@ pub use Rattle.pg_cert_files.specs.Prelude.{contains-empty, count_of_two, count_
 pub use Rattle.pg_cert_files.specs.Prelude.{each_has_one, each_of, empty, field_words, flat_map}
 pub use Rattle.pg_cert_files.specs.Prelude.{following, formed, from_list, goal_word, has_bar}
 pub use Rattle.pg_cert_files.specs.Prelude.{has_point, header, insert, is_paired, is_touched}
-pub use Rattle.pg_cert_files.specs.Prelude.{join_with_byte, least, list_all, list_any, nat_cmp}
+pub use Rattle.pg_cert_files.specs.Prelude.{join_with_byte, least, list_any, nat_cmp}
 pub use Rattle.pg_cert_files.specs.Prelude.{node_count, node_of, node_with, number_of, onto}
 pub use Rattle.pg_cert_files.specs.Prelude.{onto_first, parts, side_word, slice_split, spaced}
 pub use Rattle.pg_cert_files.specs.Prelude.{turn_of, two_parts, version_of, with_body, with_form}

@@ -10,7 +10,6 @@ use Rattle.pg_cert_files.specs.CertFile.{step_due, step}
 use Rattle.pg_cert_files.specs.FirstFault.{counted_number, is_no_count, is_too_many}
 use Rattle.pg_cert_files.specs.FirstFault.{has_wrong_number, line_faults}
 use Rattle.pg_cert_lines.specs.declared.fault.Fault.TheVariants as faults
-use Rattle.pg_cert_lines.specs.declared.form.Form.{Form}
 use Rattle.pg_cert.specs.declared.part.Part.TheVariants as parts
 use Rattle.pg_cert_files.specs.declared.progress.Due.{Due}
 use Rattle.pg_cert_files.specs.declared.progress.Due.TheVariants as due

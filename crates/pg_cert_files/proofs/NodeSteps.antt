@@ -1,7 +1,6 @@
 -- A node line takes the step that its node says.
-use Rattle.std.proofs.Common.{◌≡◌, ◌∙◌, [], ◌∷◌, ◌++◌, ℕ, ◌+◌, ◌<◌, Result, Ok, Err, Option, Some}
+use Rattle.std.proofs.Common.{ℕ, Result, Ok, Err, Option, Some}
 use Rattle.std.proofs.Common.{ap}
-use Rattle.std.specs.Prelude.{◌||◌, ◌==◌, ◌&&◌, if◌then◌else◌}
 use Rattle.pg_cert_files.proofs.Common.{Node, Part, Gives, and_then, LineError, Bytes, node_line}
 use Rattle.pg_cert_files.proofs.Common.{Fault}
 use Rattle.pg_cert.specs.declared.part.Part.TheVariants as part

@@ -2,16 +2,16 @@
 use Rattle.std.proofs.Common.{◌≡◌, ◌∙◌, ℕ, ◌<◌, Bool, true, false, List, [], ◌∷◌, ◌++◌, length}
 use Rattle.std.proofs.Common.{append_assoc, Result, Ok, Err, Some, refl, sym, ap, subst, inl, inr}
 use Rattle.std.proofs.Common.{arith, ◌+◌}
-use Rattle.std.specs.Prelude.{◌||◌, ◌&&◌, ◌==◌, eqb}
-use Rattle.pg_cert_files.proofs.Common.{FinSet, contains, empty, insert, list_any, list_all}
-use Rattle.pg_cert_files.proofs.Common.{AllByRecursion, slice_split, onto_first, join_with_byte}
+use Rattle.std.specs.Prelude.{◌||◌, ◌==◌, eqb}
+use Rattle.pg_cert_files.proofs.Common.{FinSet, contains, empty, insert, list_any}
+use Rattle.pg_cert_files.proofs.Common.{AllByRecursion, onto_first, join_with_byte}
 use Rattle.pg_cert_files.proofs.Common.{nat_cmp, cases_Bool, or_left, or_right, eqb-true, nat_tests}
 use Rattle.pg_cert_files.proofs.Common.{contains-empty, length-append, All-from_recursion}
 use Rattle.pg_cert_files.proofs.Common.{list_all-append, list_any-append}
 use Rattle.pg_cert_files.proofs.Common.{join_with_byte-slice_split, slice_split-cons_yes}
 use Rattle.pg_cert_files.proofs.Common.{slice_split-cons_no, Pair, has_point, is_paired, onto}
 use Rattle.pg_cert_files.proofs.Common.{each_of, following, Bytes, parts, first_and_others}
-use Rattle.pg_cert_files.proofs.Common.{some_part, each_has_one, word_pair, Fault, HYPHEN}
+use Rattle.pg_cert_files.proofs.Common.{some_part, word_pair, Fault, HYPHEN}
 use Rattle.pg_cert_files.proofs.Common.{MAX_MEMBERS}
 use Rattle.pg_base.specs.WordLemmas.{in_insert}
 use Rattle.pg_cert_lines.specs.Numerals.{SaysFirst}

@@ -3,22 +3,22 @@
 use Rattle.std.proofs.Common.{◌≡◌, ◌∙◌, ◌⊎◌, ℕ, ◌-◌, Bool, true, false, List, [], ◌∷◌, ◌++◌, length}
 use Rattle.std.proofs.Common.{take, append_assoc, Result, Ok, Err, Option, Some, None, refl, sym}
 use Rattle.std.proofs.Common.{ap, subst, inl, inr, eqb-true, arith, ◌≤◌}
-use Rattle.std.specs.Prelude.{◌||◌, ◌&&◌, ◌==◌, if◌then◌else◌, codes}
+use Rattle.std.specs.Prelude.{◌&&◌, ◌==◌, if◌then◌else◌, codes}
 use Rattle.pg_cert_files.proofs.Common.{from_list, list_any, AllByRecursion, cases_Bool, or_right}
 use Rattle.pg_cert_files.proofs.Common.{length-append, All-from_recursion, recursion_from_All}
 use Rattle.pg_cert_files.proofs.Common.{list_all-append, list_any-append, Pair, is_touched, Version}
-use Rattle.pg_cert_files.proofs.Common.{One, Two, and_then, each_of, following, Bytes, Lacks, Four}
+use Rattle.pg_cert_files.proofs.Common.{One, Two, and_then, each_of, following, Bytes, Lacks}
 use Rattle.pg_cert_files.proofs.Common.{parts, four_parts, first_and_others, just_two, too_many}
 use Rattle.pg_cert_files.proofs.Common.{four_two, four_three, all_append, has_bar, turn_of}
 use Rattle.pg_cert_files.proofs.Common.{each_has_one, Shape, with_form, with_body, shape_of}
-use Rattle.pg_cert_files.proofs.Common.{ascending_of, field_words, word_pair, node_with, node_of}
+use Rattle.pg_cert_files.proofs.Common.{ascending_of, field_words, word_pair, node_with}
 use Rattle.pg_cert_files.proofs.Common.{formed, node_line, Fault, MAX_MEMBERS, take-append-le}
 use Rattle.pg_cert.specs.declared.node.Body.TheVariants as bodies
 use Rattle.pg_cert.specs.declared.node.Node.{Node}
 use Rattle.pg_cert.specs.declared.part.Part.TheVariants as part
 use Rattle.pg_cert_files.specs.CertFile.{behind, node_step}
 use Rattle.pg_cert_files.specs.Shortened.{clash, twice, short_pairs, short_node}
-use Rattle.pg_cert_files.specs.Shortening.{ArePairs, EndsInPairs, IsFront, IsSpare, short_step}
+use Rattle.pg_cert_files.specs.Shortening.{EndsInPairs, IsFront, IsSpare, short_step}
 use Rattle.pg_cert_files.specs.Shortening.{EndsInExcess}
 use Rattle.pg_cert_lines.specs.declared.fault.Fault.TheVariants as faults
 use Rattle.pg_cert_lines.specs.declared.form.Form.TheVariants as forms

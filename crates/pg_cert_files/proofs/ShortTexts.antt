@@ -1,11 +1,11 @@
 -- A text whose line in hand is cut short says the same, cut short, whatever comes behind it.
 use Rattle.std.proofs.Common.{◌≡◌, ◌∙◌, ℕ, ◌+◌, ◌-◌, ◌<◌, ◌≤◌, Bool, true, false, List, [], ◌∷◌}
-use Rattle.std.proofs.Common.{◌++◌, length, map, append_assoc, Result, Ok, Err, Option, Some, None}
+use Rattle.std.proofs.Common.{◌++◌, length, map, append_assoc, Ok, Err, Option, Some, None}
 use Rattle.std.proofs.Common.{refl, sym, ap, ap₂, subst, inl, inr, eqb-true, arith}
 use Rattle.std.specs.Prelude.{◌==◌, nat_lt, fold, option_map}
-use Rattle.pg_cert_files.proofs.Common.{Vec, AllByRecursion, cases_Bool, nat_tests, append-nil}
+use Rattle.pg_cert_files.proofs.Common.{Vec, cases_Bool, nat_tests, append-nil}
 use Rattle.pg_cert_files.proofs.Common.{length-append, map-append, map_push, All-from_recursion}
-use Rattle.pg_cert_files.proofs.Common.{fold-append, Claim, Version, Node, Part, Bytes, Lacks}
+use Rattle.pg_cert_files.proofs.Common.{fold-append, Claim, Version, Node, Part, Bytes}
 use Rattle.pg_cert_files.proofs.Common.{lines, all_append, Fault, Head}
 use Rattle.pg_cert.specs.declared.part.Part.TheVariants as parts
 use Rattle.pg_cert_files.specs.CertFile.{Step, Seen, nothing, step, node_step, taken, after, seen}
@@ -15,12 +15,11 @@ use Rattle.pg_cert_files.specs.CertFile.{certificate, fault_of, text_version, te
 use Rattle.pg_cert_files.specs.Lines.{Cut, with_byte, cut}
 use Rattle.pg_cert_files.specs.Pieces.{IsFed, size_of}
 use Rattle.pg_cert_files.specs.Reader.{StandsFor, told}
-use Rattle.pg_cert_files.specs.Shortened.{AreAlike, HasBeenFed, IsFedShort, said, says, short_cert}
+use Rattle.pg_cert_files.specs.Shortened.{AreAlike, HasBeenFed, IsFedShort, said, says}
 use Rattle.pg_cert_files.specs.Shortened.{short_claim, short_node, short_part, short_result}
 use Rattle.pg_cert_files.specs.Shortening.{IsSpare, StandsShort, short_step}
 use Rattle.pg_cert_files.specs.declared.cert_state.CertReader.{CertReader}
 use Rattle.pg_cert_files.specs.declared.limits.TheConstants.{MAX_CERT_BYTES}
-use Rattle.pg_cert_files.specs.declared.progress.Due.{Due}
 use Rattle.pg_cert_files.specs.declared.progress.Due.TheVariants as due
 use Rattle.pg_cert_files.specs.declared.progress.Progress.{Progress}
 use Rattle.pg_cert_files.specs.declared.reader.LineReader.{LineReader}

@@ -8,7 +8,7 @@ use Rattle.pg_cert_files.proofs.Common.{Lacks, without_empty_end, lines, Part}
 use Rattle.pg_cert_files.proofs.Common.{without_empty_end-append, one_line, number_of, Fault}
 use Rattle.pg_cert_files.specs.Lines.{Cut, cut}
 use Rattle.pg_cert_files.specs.CertFile.{Seen, nothing, step, taken, after, seen, listed, outcome}
-use Rattle.pg_cert_files.specs.CertFile.{at_number, end_fault, fault_of, text_parts}
+use Rattle.pg_cert_files.specs.CertFile.{fault_of, text_parts}
 use Rattle.pg_cert_files.specs.Reader.{StandsFor, told, IsBad}
 use Rattle.pg_cert_files.specs.declared.progress.Progress.{Progress}
 use Rattle.pg_cert_files.specs.declared.reader.LineReader.{LineReader}

@@ -33,13 +33,13 @@ pub use Rattle.pg_cert_lines.specs.declared.signs.TheConstants.{HYPHEN}
 pub use Rattle.pg_game.specs.Game.{is_touched}
 pub use Rattle.pg_game.specs.Pairs.{has_point, is_paired}
 pub use Rattle.pg_text.specs.Faults.{Fails, Gives, and_then, each_of, following, least, onto}
-pub use Rattle.pg_text.specs.Text.{Bytes, Four, Lacks, parts, spaced, two_parts, without_empty_end}
+pub use Rattle.pg_text.specs.Text.{Bytes, Lacks, parts, spaced, two_parts, without_empty_end}
 unfoldable pub use Rattle.pg_text.specs.Text.{four_parts, lines, number}
 pub use Rattle.pg_text.specs.declared.error.FileError.{FileError}
 pub use Rattle.pg_text.specs.declared.error.LineError.{LineError}
 pub use Rattle.std.specs.FinSet.{FinSet, contains, contains-empty, empty, from_list, insert}
 pub use Rattle.std.specs.Fmt.{decimal}
 pub use Rattle.std.specs.Global.{Vec}
-pub use Rattle.std.specs.List.{AllByRecursion, flat_map, join_with_byte, list_all, list_any}
+pub use Rattle.std.specs.List.{AllByRecursion, flat_map, join_with_byte, list_any}
 pub use Rattle.std.specs.List.{onto_first, slice_split}
 pub use Rattle.std.specs.Ordering.{nat_cmp}

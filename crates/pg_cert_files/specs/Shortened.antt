@@ -1,7 +1,7 @@
 -- Certificates whose pairs are cut short where two of them share a point: in no game are such pairs
 -- a pairing, so no more of them count than may be drawn, nor which points they share.
-use Rattle.std.specs.Prelude.{◌≡◌, ℕ, ◌+◌, ◌≤◌, ◌||◌, Bool, false, if◌then◌else◌, List, [], ◌∷◌}
-use Rattle.std.specs.Prelude.{◌++◌, length, map, Option, Result, Ok, Err, option_map, take}
+use Rattle.std.specs.Prelude.{◌≡◌, ℕ, ◌≤◌, ◌||◌, Bool, false, if◌then◌else◌, List, [], ◌∷◌}
+use Rattle.std.specs.Prelude.{◌++◌, length, map, Result, Ok, Err, take}
 use Rattle.pg_cert_files.specs.Prelude.{list_any, Bytes, lines, Pair, has_point, Cert, Claim, Body}
 use Rattle.pg_cert_files.specs.Prelude.{Node, Part, Fault, MAX_MEMBERS}
 use Rattle.pg_cert.specs.declared.node.Body.TheVariants as bodies

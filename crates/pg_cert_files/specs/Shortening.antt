@@ -1,5 +1,5 @@
 -- A line of pairs of which some may be left out.
-use Rattle.std.specs.Prelude.{◌≡◌, ℕ, ◌+◌, ◌<◌, true, List, ◌++◌, ◌∷◌, length, Option, Result, Ok}
+use Rattle.std.specs.Prelude.{◌≡◌, ℕ, ◌+◌, ◌<◌, true, List, ◌++◌, ◌∷◌, length, Ok}
 use Rattle.std.specs.Prelude.{Err, option_map, codes, ◌≤◌}
 use Rattle.pg_cert_files.specs.Prelude.{FinSet, contains, nat_cmp, Pair, BAR, SPACE, is_paired}
 use Rattle.pg_cert_files.specs.Prelude.{each_of, Bytes, Lacks, parts, each_has_one, word_pair}

@@ -1,7 +1,7 @@
 -- A line of the right form can only have wrong numbers.
-use Rattle.std.proofs.Common.{◌≡◌, ℕ, ◌+◌, Bool, ◌||◌, inl, inr, List, [], ◌∷◌, map, refl, ◌∙◌}
+use Rattle.std.proofs.Common.{◌≡◌, ℕ, Bool, inl, inr, List, [], ◌∷◌, map, refl}
 use Rattle.std.proofs.Common.{Option, Some, None, Result, Ok, Err}
-use Rattle.std.specs.Prelude.{◌==◌, nat_lt}
+use Rattle.std.specs.Prelude.{nat_lt}
 use Rattle.pg_cert_lines.proofs.Common.{from_list, cases_Bool, and_then, each_of, onto, Bytes}
 use Rattle.pg_cert_lines.proofs.Common.{pair_of, two_parts, number, ascend_from, is_touched, Body}
 use Rattle.pg_cert.specs.declared.node.Body.TheVariants as bodies

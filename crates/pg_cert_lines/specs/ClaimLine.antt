@@ -1,5 +1,5 @@
 -- What first lines, claim lines and `nodes` lines say.
-use Rattle.std.specs.Prelude.{◌==◌, if◌then◌else◌, [], ◌∷◌, ◌++◌, Option, Some, None, codes}
+use Rattle.std.specs.Prelude.{if◌then◌else◌, Option, Some, None, codes}
 use Rattle.pg_cert_lines.specs.Prelude.{bytes_eq, Version, One, Two, SPACE, Side, Goal, goal_of}
 use Rattle.pg_cert_lines.specs.Prelude.{Bytes, Four, two_parts, four_parts, side_of}
 use Rattle.pg_cert_lines.specs.declared.head.Head.{Head}

@@ -1,6 +1,6 @@
 //! What single lines say.
 
-ghost use Rattle.std.specs.Prelude.{◌≡◌, ◌==◌, option_map, if◌then◌else◌, Ok, Err};
+ghost use Rattle.std.specs.Prelude.{◌≡◌, option_map, if◌then◌else◌, Ok, Err};
 ghost use Rattle.pg_cert_lines.specs.Prelude.{Gives, words_of};
 ghost use Rattle.pg_cert_lines.specs.Form.{has_bar, are_none, has_one_slash};
 ghost use Rattle.pg_cert_lines.specs.NodeLine.{edges_of, node_line};

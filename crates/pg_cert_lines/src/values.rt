@@ -1,7 +1,7 @@
 //! The numbers of a node line.
 
 ghost use Rattle.std.specs.Prelude.{◌≡◌, ◌<◌, map, IfOk, IfSome, option_map};
-ghost use Rattle.pg_cert_lines.specs.Prelude.{empty, All, number, parts, two_parts, words_of};
+ghost use Rattle.pg_cert_lines.specs.Prelude.{empty, All, number, parts, words_of};
 ghost use Rattle.pg_cert_lines.specs.Prelude.{ascend_from, MAX_MEMBERS, SPACE, Gives, each_of};
 ghost use Rattle.pg_cert_lines.specs.declared.signs.TheConstants.{COLON, HYPHEN};
 ghost use Rattle.pg_cert_lines.specs.NodeLine.{below, point_of, child_of, ascending_of};

@@ -8,7 +8,7 @@ use Rattle.pg_pns.proofs.Common.{Position, free_points, start, after, Stand, Vie
 use Rattle.pg_pns.proofs.Common.{length-free_points-after, in_free_points, some≢none, contains_push}
 use Rattle.pg_pns.specs.declared.known.Answered.{Answered}
 use Rattle.pg_pns.specs.declared.table.Table.{Table}
-use Rattle.pg_pns.specs.Descent.{IsOpenMove, HasOpen, IsOnWay, IsStep, IsAtStart, GoesDown, GoesUp}
+use Rattle.pg_pns.specs.Descent.{IsOpenMove, HasOpen, IsOnWay, IsStep, IsAtStart, GoesDown}
 use Rattle.pg_pns.specs.Descent.{first_stand, free_at}
 use Rattle.pg_pns.specs.Known.{answer_at}
 use Rattle.pg_pns.specs.Settles.{by_answers}

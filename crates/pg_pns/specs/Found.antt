@@ -7,8 +7,8 @@ use Rattle.pg_pns.specs.Prelude.{position_of, Claim, One, claimer, claimed_goal,
 use Rattle.pg_pns.specs.Prelude.{IsUsed}
 use Rattle.pg_pns.specs.declared.work.Found.{Found}
 use Rattle.pg_pns.specs.declared.work.Found.TheVariants.{Yes, No, Unknown}
-use Rattle.pg_pns.specs.Expanded.{Expanded}
-use Rattle.pg_pns.specs.Search.{Follows, IsListed}
+use Rattle.pg_pns.specs.Expanded.{Expanded, IsListed}
+use Rattle.pg_pns.specs.Search.{Follows}
 
 -- The claim shows the answer: it is valid and within the limits of version 1 of the format, a
 -- decided position has the leaf of the first criterion, the last node is the game's position, they

@@ -2,7 +2,7 @@
 ghost use Rattle.std.specs.Prelude.{◌≡◌, ◌<◌, ◌≤◌, ◌+◌, ◌*◌, ◌^◌, [], ◌∷◌, ◌++◌, List, ℕ, length};
 ghost use Rattle.std.specs.Prelude.{slice_get, slice_set, Some, None, IfOk, IfSome, IfNone, OnOk};
 ghost use Rattle.std.specs.Prelude.{OnErr};
-ghost use Rattle.pg_pns.specs.Prelude.{Position, Score, start, free_points, lines_of, Fits};
+ghost use Rattle.pg_pns.specs.Prelude.{Position, start, free_points, lines_of, Fits};
 ghost use Rattle.pg_pns.specs.Prelude.{IsTable, keys_of, Contains, MAX_CLAIM_NODES};
 ghost use Rattle.pg_game.specs.Decided.{claimer as claimer_of, claimed_goal as claimed_by};
 ghost use Rattle.pg_pns.specs.Found.{IsAnswer};
@@ -10,7 +10,8 @@ ghost use Rattle.pg_pns.specs.Descent.{IsAtStart};
 ghost use Rattle.pg_pns.specs.Known.{answer_at};
 ghost use Rattle.pg_pns.specs.Reading.{IsAskedOf, IsExpansion, IsKept, IsMoveAt, IsReadAt};
 ghost use Rattle.pg_pns.specs.Reading.{IsReadAtStart};
-ghost use Rattle.pg_pns.specs.Search.{IsSearch, CanGoOn, CanGrow, GoesOn, IsGrowing, IsListed};
+ghost use Rattle.pg_pns.specs.Expanded.{IsListed};
+ghost use Rattle.pg_pns.specs.Search.{IsSearch, CanGoOn, CanGrow, GoesOn, IsGrowing};
 ghost use Rattle.pg_pns.specs.Search.{IsRootFound};
 ghost use Rattle.pg_pns.specs.declared.limits.TheConstants.{MAX_EXPANDED_MOVES};
 

@@ -1,5 +1,5 @@
 //! The positions that a search has met.
-ghost use Rattle.std.specs.Prelude.{◌≡◌, ◌<◌, ◌^◌, [], length, Some, None, IfOk, true, false};
+ghost use Rattle.std.specs.Prelude.{◌≡◌, ◌<◌, ◌^◌, [], length, None, IfOk, true, false};
 ghost use Rattle.pg_pns.specs.Prelude.{get, Score, Game, IsPosition, Position, after};
 ghost use Rattle.pg_pns.specs.Prelude.{equal_positions};
 ghost use Rattle.pg_pns.specs.Claims.{nodes_of};

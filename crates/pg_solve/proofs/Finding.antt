@@ -18,17 +18,6 @@ use Rattle.pg_solve.specs.declared.solution.Solution.TheVariants.{Value, Class a
 
 -- ---- the questions
 
-pub left-first : (g : Game) (budget : ℕ) (work : Expanded)
-    → IsWorkOf g XWins budget work
-    → IsLeft g budget work
-left-first g budget work is = record {
-  question = XWins;
-  held = is.question;
-  asked = tt;
-  rules = is.listed.rules;
-  count = is.listed.count;
-}
-
 pub left-second : (g : Game) (budget : ℕ) (denial : Claim) (work : Expanded)
     → g.kind ≡ MakerMaker
     → IsSearched g budget XWins false denial
@@ -38,8 +27,7 @@ left-second g budget denial work kind denied is = record {
   question = Draw;
   held = is.question;
   asked = (kind, denied-value g budget denial kind denied);
-  rules = is.listed.rules;
-  count = is.listed.count;
+  listed = is.listed;
 }
 
 pub open-second : (g : Game) (budget : ℕ) (denial : Claim) (work : Expanded)
@@ -205,7 +193,7 @@ module _ (g : Game) (budget : ℕ) (work : Expanded) where
       let same : Some left.question ≡ Some (last_question g.kind score) = sym left.held ∙ is.0 in
       let asked : left.question ≡ last_question g.kind score = cc in
       claims-value g budget work.positions score cert.claims
-      (subst (λ (t : Score). IsTable g t work.positions) asked left.rules) is.1
+      (subst (λ (t : Score). IsTable g t work.positions) asked left.listed.rules) is.1
   found-true left (ForClass class cert) is = absurd is
   found-true left Unknown is = tt
 

@@ -63,7 +63,7 @@ pub denied-value : (g : Game) (budget : ℕ) (c : Claim)
     → IsSearched g budget XWins false c
     → value g (start g) ≢ XWins
 denied-value g budget c kind is =
-    let forced = found-forced g XWins is.table false c is.rules is.shows in
+    let forced = found-forced g XWins is.table false c is.listed.rules is.shows in
     x-denied _ (subst (λ (k : Kind). Forces g (start g) Y (claimed_goal k XWins false)) kind forced)
 
 -- the claims show the value
@@ -86,7 +86,7 @@ claims-value g budget table YWins claims rules is =
     y-wins _ (subst (λ (k : Goal). Forces g (start g) Y k) (no-win g.kind) forced)
 claims-value g budget table Draw claims rules is =
     let first =
-    found-forced g XWins is.denies.table false is.denial is.denies.rules is.denies.shows in
+    found-forced g XWins is.denies.table false is.denial is.denies.listed.rules is.denies.shows in
     let drawn : IsTable g Draw table =
     subst (λ (k : Kind). IsTable g (last_question k Draw) table) is.kind rules in
     let second = found-forced g Draw table true is.claim drawn is.shows in

@@ -1,7 +1,7 @@
 -- What solving leaves in the work.
-use Rattle.std.specs.Prelude.{◌≡◌, ◌≢◌, ◌≤◌, ◌⊎◌, ℕ, length, Option, Some}
+use Rattle.std.specs.Prelude.{◌≡◌, ◌≢◌, ◌⊎◌, ℕ, length, Option, Some}
 use Rattle.pg_solve.specs.Prelude.{Kind, MakerMaker, Switching, Score, XWins, Draw, YWins}
-use Rattle.pg_solve.specs.Prelude.{free_points, start, IsTable, IsOpenTable, value, Game, Expanded}
+use Rattle.pg_solve.specs.Prelude.{free_points, start, IsListed, IsOpenTable, value, Game, Expanded}
 use Rattle.pg_pns.specs.Budget.{budget_for}
 use Rattle.pg_solve.specs.Searched.{last_question}
 use Rattle.pg_solve.specs.declared.solution.Solution.{Solution}
@@ -24,8 +24,7 @@ pub record IsLeft (g : Game) (budget : ℕ) (work : Expanded) : Type 0 where
   pub question : Score
   pub held : work.question ≡ Some question
   pub asked : IsAsked g question
-  pub rules : IsTable g question work.positions
-  pub count : length work.positions ≤ budget
+  pub listed : IsListed g question budget work.positions
 
 -- the work holds the question asked last, with exactly as many positions as the budget, which leave
 -- it open

@@ -30,7 +30,7 @@ pub use Rattle.pg_game.specs.Value.{Forces, reaches, value}
 pub use Rattle.pg_game.specs.declared.game.Game.{Game}
 pub use Rattle.pg_game.specs.declared.position.Position.{Position}
 pub use Rattle.pg_lehman.specs.Sets.{SetsHold}
-pub use Rattle.pg_pns.specs.Expanded.{Expanded}
+pub use Rattle.pg_pns.specs.Expanded.{Expanded, IsListed}
 pub use Rattle.pg_pns.specs.Found.{IsAnswer, IsClaimOf, IsWorkOf}
 pub use Rattle.pg_pns.specs.Reachable.{IsReachable}
 pub use Rattle.std.specs.FinSet.{FinSet, contains, insert, remove}

@@ -1,6 +1,6 @@
 -- Claims that a search has found, and the value that they show.
-use Rattle.std.specs.Prelude.{◌≡◌, ◌≤◌, ℕ, Bool, true, false, List, [], ◌∷◌, length}
-use Rattle.pg_solve.specs.Prelude.{Kind, MakerMaker, Score, XWins, Draw, YWins, Claim, IsTable}
+use Rattle.std.specs.Prelude.{◌≡◌, ℕ, Bool, true, false, List, [], ◌∷◌}
+use Rattle.pg_solve.specs.Prelude.{Kind, MakerMaker, Score, XWins, Draw, YWins, Claim, IsListed}
 use Rattle.pg_solve.specs.Prelude.{Game, Position, IsClaimOf}
 
 -- the question whose answer tells that the value is this one: whether X wins, and in Maker-Maker
@@ -14,8 +14,7 @@ last_question _ _ = XWins
 pub record IsSearched (g : Game) (budget : ℕ) (question : Score) (answer : Bool)
     (claim : Claim) : Type 0 where
   pub table : List Position
-  pub rules : IsTable g question table
-  pub count : length table ≤ budget
+  pub listed : IsListed g question budget table
   pub shows : IsClaimOf g question table answer claim
 
 -- one claim answers the last question, for which these positions were expanded

@@ -1,6 +1,6 @@
 -- What the plans' answers keep.
 use Rattle.std.proofs.Common.{◌≡◌, ℕ, ◌<◌, true, Option, sym, ap, ◌∙◌, subst, subst₂, arith}
-use Rattle.pg_switch.proofs.Common.{FinSet, contains, remove, nat_cmp, X, Y, Graph, Field, Game}
+use Rattle.pg_switch.proofs.Common.{FinSet, remove, nat_cmp, X, Y, Graph, Field, Game}
 use Rattle.pg_switch.proofs.Common.{Position, field_points, point_count, after, is_free, Answered}
 use Rattle.pg_switch.proofs.Common.{claimed, IsFreeEdge, TreesHold, TreesHoldOn, CutsHold}
 use Rattle.pg_switch.proofs.Common.{CutsHoldOn, answered_edge, short_edge, cut_edge, trees_answer}

@@ -1,7 +1,7 @@
 //! Plans by trees and by cuts.
 ghost use Rattle.std.specs.Prelude.{◌≡◌, ◌<◌};
-ghost use Rattle.pg_switch.specs.Prelude.{remove, X, Y, IsGraph, IsMadeForGame, short_edge};
-ghost use Rattle.pg_switch.specs.Prelude.{cut_edge, answered_edge, TreesHold, CutsHold};
+ghost use Rattle.pg_switch.specs.Prelude.{remove, X, Y, IsGraph, IsMadeForGame};
+ghost use Rattle.pg_switch.specs.Prelude.{answered_edge, TreesHold, CutsHold};
 ghost use Rattle.pg_switch.specs.Replies.{IsSwitchingTurn, HeldUntil, LeavesHeld, IsTreesAnswer};
 ghost use Rattle.pg_switch.specs.Replies.{IsCutsAnswer};
 

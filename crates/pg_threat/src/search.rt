@@ -1,5 +1,5 @@
 //! The search for a threat line.
-ghost use Rattle.std.specs.Prelude.{◌≡◌, ◌≤◌, ◌<◌, ◌+◌, ◌↔◌, ℕ, true, false, length, ◌==◌, ◌&&◌};
+ghost use Rattle.std.specs.Prelude.{◌≡◌, ◌≤◌, ◌<◌, ◌↔◌, ℕ, true, false, length, ◌==◌, ◌&&◌};
 ghost use Rattle.std.specs.Prelude.{if◌then◌else◌};
 ghost use Rattle.pg_threat.specs.Prelude.{contains, after, is_over, lines_of, IsPosition};
 ghost use Rattle.pg_threat.specs.Prelude.{may_attack, IsAttack, LeadsToLine, IsAttacking};

@@ -1,4 +1,4 @@
-use Rattle.std.proofs.Common.{◌≡◌, ◌-◌, ℕ, length, arith, ap₂, sym}
+use Rattle.std.proofs.Common.{◌≡◌, ◌-◌, ℕ, length, arith, ap₂}
 use Rattle.pg_cert_files.proofs.ShortTexts.{fed_less, sizes_are}
 use Rattle.pg_cert_files.proofs.cert_state.CertReader.cut_line.Goals as goal
 
