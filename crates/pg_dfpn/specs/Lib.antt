@@ -1,0 +1,4 @@
+pub mod Prelude
+pub mod Asking
+pub mod Drafted
+pub mod Settled

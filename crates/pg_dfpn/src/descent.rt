@@ -1,0 +1,182 @@
+//! The search, down and up the board.
+ghost use Rattle.std.specs.Prelude.{◌≡◌, ◌<◌, ◌≤◌};
+ghost use Rattle.pg_dfpn.specs.Prelude.{Fits, lines_of};
+ghost use Rattle.pg_dfpn.specs.Asking.{IsRead};
+
+use crate::judging::{Asked, judged};
+use crate::key::key_of;
+use crate::moving::{play_free, undo_last};
+use crate::numbers::{Numbers, State};
+use crate::survey::{Frame, Survey};
+use crate::table::Table;
+use pg_base::{MAX_MEMBERS, Memory};
+use pg_board::Board;
+use pg_game::{Game, Position};
+use pg_match::PairCache;
+use std::alloc::Global;
+
+/// How often a position may be looked at again for each that may be expanded.
+const VISITS: u64 = 256;
+
+/// What a search has found out.
+#[derive(Debug, Drop)]
+pub(crate) struct Search {
+    pub(crate) table: Table,
+    /// How many positions are expanded.
+    pub(crate) expanded: u32,
+}
+
+/// The numbers after the move to the point.
+pub(crate) fn numbers_after(g: &Game, p: &Position, v: u16, table: &Table) -> Option<Numbers>
+    requires { v < MAX_MEMBERS }
+{
+    table.find(&key_of(&g.after(p, v)))
+}
+
+/// What the moves at the position tell that were met.
+pub(crate) fn survey_at(g: &Game, p: &Position, table: &Table) -> Survey {
+    let mut survey = Survey::new(p.turn);
+    for v in 0..g.points() {
+        if p.is_free(v) {
+            if let Some(numbers) = numbers_after(g, p, v, table) {
+                survey.put(v, &numbers);
+            }
+        }
+    }
+    survey
+}
+
+/// Judges the position after the move to the point, where it was not met, and tells whether the
+/// mover wins there.
+fn meet(
+    alloc: Global,
+    asked: Asked<'_>,
+    p: &Position,
+    v: u16,
+    board: &mut Board<'_>,
+    cache: &mut PairCache,
+    table: &mut Table,
+) -> Result<bool, Memory>
+    requires reads { IsRead asked.game.now asked.question board.old cache.old }
+    requires range { v < MAX_MEMBERS }
+    ensures game { board.new.game ≡ board.old.game }
+    ensures fits { Fits cache.new (lines_of asked.entry.game.now) }
+    ensures most { table.new.most ≡ table.old.most }
+{
+    let key = key_of(&asked.game.after(p, v));
+    if let Some(numbers) = table.find(&key) {
+        return Ok(numbers.of(p.turn) == 0);
+    }
+    play_free(board, v);
+    let numbers = judged(alloc, asked, board, cache)?;
+    undo_last(board);
+    table.put(key, numbers)?;
+    Ok(numbers.of(p.turn) == 0)
+}
+
+/// Judges the positions after all moves, up to one at which the mover wins.
+fn expand(
+    alloc: Global,
+    asked: Asked<'_>,
+    p: &Position,
+    board: &mut Board<'_>,
+    cache: &mut PairCache,
+    table: &mut Table,
+) -> Result<(), Memory>
+    requires reads { IsRead asked.game.now asked.question board.old cache.old }
+    ensures game { board.new.game ≡ board.old.game }
+    ensures fits { Fits cache.new (lines_of asked.entry.game.now) }
+    ensures most { table.new.most ≡ table.old.most }
+{
+    for v in 0..asked.game.points() {
+        if p.is_free(v) && meet(alloc, asked, p, v, board, cache, table)? {
+            return Ok(());
+        }
+    }
+    Ok(())
+}
+
+/// Whether the position is expanded.
+fn is_expanded(p: &Position, table: &Table) -> bool {
+    match table.find(&key_of(p)) {
+        Some(numbers) => numbers.state == State::Expanded,
+        None => false,
+    }
+}
+
+/// What the moves at the position of the board tell, which is expanded where it isn't yet.
+fn visit(
+    alloc: Global,
+    asked: Asked<'_>,
+    board: &mut Board<'_>,
+    cache: &mut PairCache,
+    search: &mut Search,
+) -> Result<Survey, Memory>
+    requires reads { IsRead asked.game.now asked.question board.old cache.old }
+    requires few { search.old.expanded < asked.limits.positions }
+    ensures game { board.new.game ≡ board.old.game }
+    ensures fits { Fits cache.new (lines_of asked.entry.game.now) }
+    ensures most { search.new.table.most ≡ search.old.table.most }
+    ensures few { search.new.expanded ≤ asked.entry.limits.positions }
+{
+    let p = board.position();
+    if !is_expanded(&p, &search.table) {
+        search.expanded += 1;
+        expand(alloc, asked, &p, board, cache, &mut search.table)?;
+    }
+    let survey = survey_at(asked.game, &p, &search.table);
+    search.table.put(key_of(&p), survey.numbers())?;
+    Ok(survey)
+}
+
+/// Goes down to the best move, or up where the last frame is reached.
+fn go_on(board: &mut Board<'_>, survey: &Survey, frames: &mut Vec<Frame>) -> Result<(), Memory>
+    ensures { board.new.game ≡ board.old.game }
+{
+    let Some(frame) = frames.pop() else {
+        return Ok(());
+    };
+    let Some(v) = survey.point() else {
+        undo_last(board);
+        return Ok(());
+    };
+    if frame.is_reached(&survey.numbers()) {
+        undo_last(board);
+        return Ok(());
+    }
+    frames.push(frame)?;
+    frames.push(survey.below(&frame))?;
+    play_free(board, v);
+    Ok(())
+}
+
+/// Searches on from the position of the board until its answer is known, or as much is used as may
+/// be. The board may stand below afterwards.
+pub(crate) fn descend(
+    alloc: Global,
+    asked: Asked<'_>,
+    board: &mut Board<'_>,
+    cache: &mut PairCache,
+    search: &mut Search,
+) -> Result<(), Memory>
+    requires reads { IsRead asked.game.now asked.question board.old cache.old }
+    requires few { search.old.expanded ≤ asked.limits.positions }
+    ensures game { board.new.game ≡ board.old.game }
+    ensures fits { Fits cache.new (lines_of asked.entry.game.now) }
+    ensures most { search.new.table.most ≡ search.old.table.most }
+    ensures few { search.new.expanded ≤ asked.entry.limits.positions }
+{
+    let mut frames = Vec::new(alloc);
+    frames.push(Frame::whole())?;
+    for _step in 0..VISITS * u64::from(asked.limits.positions) {
+        if frames.is_empty()
+            || search.table.is_full()
+            || search.expanded >= asked.limits.positions
+        {
+            return Ok(());
+        }
+        let survey = visit(alloc, asked, board, cache, search)?;
+        go_on(board, &survey, &mut frames)?;
+    }
+    Ok(())
+}

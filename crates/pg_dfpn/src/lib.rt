@@ -1,0 +1,17 @@
+//! An exact search for the answer to a question on a game on lines, of any kind and bias, that
+//! counts the nodes that it keeps and not the positions that it meets.
+#![tactic(auto)]
+
+mod descent;
+mod drafting;
+mod judging;
+mod key;
+mod limits;
+mod moving;
+mod numbers;
+mod settling;
+mod survey;
+mod table;
+
+pub use limits::Limits;
+pub use settling::{Settled, Settling, settle};

@@ -1,0 +1,176 @@
+//! The search as it is called.
+ghost use Rattle.std.specs.Prelude.{◌≡◌, ◌≢◌, ◌≤◌, IfOk};
+ghost use Rattle.pg_dfpn.specs.Prelude.{IsQuestion, Switching, Fits, lines_of};
+ghost use Rattle.pg_dfpn.specs.Asking.{IsRead};
+ghost use Rattle.pg_game.specs.Decided.{claimer as claimer_of, claimed_goal as claimed_by};
+ghost use Rattle.pg_dfpn.specs.Settled.{IsSettled};
+
+use crate::descent::{Search, descend};
+use crate::drafting::{Draft, claimer};
+use crate::judging::{Asked, judged, total_at};
+use crate::key::key_of;
+use crate::limits::Limits;
+use crate::moving::go_up;
+use crate::table::Table;
+use pg_base::{Goal, Kind, Memory, Score};
+use pg_board::Board;
+use pg_cert::{Claim, Nodes};
+use pg_game::Game;
+use pg_match::PairCache;
+use std::alloc::Global;
+
+/// The most answers on private pairs that a search keeps.
+const MOST_ANSWERS: u32 = 1_024;
+
+/// What a search finds.
+#[derive(Debug, Drop)]
+pub enum Settled {
+    /// X reaches the score, as the claim says.
+    Yes(Claim),
+    /// X doesn't, as Y's claim says.
+    No(Claim),
+    /// The limits don't suffice.
+    Unknown,
+}
+
+/// What a search finds, and what it used.
+#[derive(Debug, Drop)]
+pub struct Settling {
+    /// The answer.
+    pub answer: Settled,
+    /// How many positions were expanded.
+    pub expanded: u32,
+    /// How many positions the table has.
+    pub entries: usize,
+}
+
+/// The goal that the claim of an answer is for.
+fn claimed_goal(kind: Kind, question: Score, answer: bool) -> Goal
+    ensures { result ≡ claimed_by kind question answer }
+{
+    match (kind, question, answer) {
+        (Kind::MakerMaker, Score::XWins, false) => Goal::Draw,
+        (Kind::MakerMaker, Score::Draw, true) => Goal::Draw,
+        _ => Goal::Win,
+    }
+}
+
+/// The answer with its claim, where this has no more nodes than a claim may.
+fn claimed(
+    alloc: Global,
+    asked: Asked<'_>,
+    answer: bool,
+    board: &mut Board<'_>,
+    cache: &mut PairCache,
+    table: &Table,
+) -> Result<Settled, Memory>
+    requires reads { IsRead asked.game.now asked.question board.old cache.old }
+    ensures { IfOk result (IsSettled asked.entry.game.now asked.entry.question) }
+{
+    let mut draft = Draft::new(alloc, answer);
+    if !draft.fill(alloc, asked, board, cache, table)? {
+        return Ok(Settled::Unknown);
+    }
+    let claim = Claim {
+        turn: asked.game.turn,
+        side: claimer(answer),
+        goal: claimed_goal(asked.game.kind, asked.question, answer),
+        nodes: Nodes::from_vec(draft.into_nodes()),
+    };
+    if answer {
+        return Ok(Settled::Yes(claim));
+    }
+    Ok(Settled::No(claim))
+}
+
+/// Searches from the position of the board, at which no play stands.
+fn search_from(
+    alloc: Global,
+    asked: Asked<'_>,
+    board: &mut Board<'_>,
+    cache: &mut PairCache,
+    search: &mut Search,
+) -> Result<Option<bool>, Memory>
+    requires reads { IsRead asked.game.now asked.question board.old cache.old }
+    requires few { search.old.expanded ≤ asked.limits.positions }
+    ensures game { board.new.game ≡ board.old.game }
+    ensures fits { Fits cache.new (lines_of asked.entry.game.now) }
+    ensures most { search.new.table.most ≡ search.old.table.most }
+    ensures few { search.new.expanded ≤ asked.entry.limits.positions }
+{
+    let key = key_of(&board.position());
+    let first = judged(alloc, asked, board, cache)?;
+    search.table.put(key, first)?;
+    if first.answer().is_none() {
+        descend(alloc, asked, board, cache, search)?;
+        go_up(board);
+    }
+    match search.table.find(&key) {
+        Some(numbers) => Ok(numbers.answer()),
+        None => Ok(None),
+    }
+}
+
+/// The answer at the position of the board, at which no play stands.
+fn settle_on(
+    alloc: Global,
+    asked: Asked<'_>,
+    board: &mut Board<'_>,
+    cache: &mut PairCache,
+) -> Result<Settling, Memory>
+    requires reads { IsRead asked.game.now asked.question board.old cache.old }
+    ensures answer { IfOk result
+        (λ found. IsSettled asked.entry.game.now asked.entry.question found.answer) }
+    ensures expanded { IfOk result (λ found. found.expanded ≤ asked.entry.limits.positions) }
+    ensures entries { IfOk result (λ found. found.entries ≤ asked.entry.limits.entries) }
+{
+    let mut search = Search {
+        table: Table::new(alloc, asked.limits.entries),
+        expanded: 0,
+    };
+    let answer = match search_from(alloc, asked, board, cache, &mut search)? {
+        Some(answer) => claimed(alloc, asked, answer, board, cache, &search.table)?,
+        None => Settled::Unknown,
+    };
+    Ok(Settling {
+        answer,
+        expanded: search.expanded,
+        entries: search.table.len(),
+    })
+}
+
+/// Whether X reaches the score from the game's position, with a claim that is to show it; or that
+/// the limits don't suffice.
+///
+/// It is a search by proof numbers to the depth (df-pn: A. Nagai, Df-pn Algorithm for Searching
+/// AND/OR Trees and Its Applications, 2002) over a table of exact positions. Leaves are those of
+/// the criteria (`leaf` of `pg_leaf`) and shared pairs. The mover's number is the least of those
+/// below; the other side's is the greatest and four times the logarithm of how many there are to
+/// the base 2. A first number is eight times the ratio of what the lines weigh to what they weigh
+/// at the game's position, or the other way round. The best move is followed until its number is
+/// beyond the second one by more than a quarter. Of the moves that win the claim has the one whose
+/// tree is least, and a position once.
+///
+/// A claim is within the limits of version 1 of the format, so the checker may be asked. That it is
+/// valid no clause says.
+///
+/// # Errors
+///
+/// `Memory` where no memory is found.
+pub fn settle(alloc: Global, g: &Game, question: Score, limits: Limits) -> Result<Settling, Memory>
+    requires question { IsQuestion g.now.kind question }
+    requires lines { g.now.kind ≢ Switching }
+    ensures answer { IfOk result (λ found. IsSettled g.now question found.answer) }
+    ensures expanded { IfOk result (λ found. found.expanded ≤ limits.positions) }
+    ensures entries { IfOk result (λ found. found.entries ≤ limits.entries) }
+{
+    let mut cache = PairCache::new(alloc, MOST_ANSWERS)?;
+    let mut board = Board::open(alloc, g, &g.start())?;
+    let asked = Asked {
+        game: g,
+        question,
+        limits,
+        total: total_at(&board),
+    };
+    settle_on(alloc, asked, &mut board, &mut cache)
+}
