@@ -1,6 +1,6 @@
 //! Numbers at the front of a text, each read in one walk over its digits.
 
-ghost use Rattle.std.specs.Prelude.{◌≡◌, ◌≢◌, ◌<◌, ◌-◌, true, false, Some, IfSome, length, get_or};
+ghost use Rattle.std.specs.Prelude.{◌≡◌, ◌≢◌, ◌≤◌, ◌-◌, true, false, Some, IfSome, length, get_or};
 ghost use Rattle.std.specs.Prelude.{option_map};
 ghost use Rattle.pg_cert_lines.specs.Prelude.{is_ascii_digit, SPACE};
 ghost use Rattle.pg_cert_lines.specs.Numerals.{BeginsWith, IsLeading, IsFirstNumber};
@@ -17,17 +17,27 @@ struct Digits {
     count: usize,
 }
 
-/// The value of the digit at the place, if one stands there.
-fn digit_at(text: &[u8], place: usize) -> Option<u32>
-    ensures place { IfSome result (λ _. place < length text.now) }
-    ensures digit { IfSome result (λ _. is_ascii_digit (get_or text.now place 0) ≡ true) }
-    ensures value { IfSome result (λ d. d ≡ get_or text.now place 0 - 48) }
+/// The value of the byte, if it is a digit.
+fn digit_of(b: u8) -> Option<u32>
+    ensures digit { IfSome result (λ _. is_ascii_digit b ≡ true) }
+    ensures value { IfSome result (λ d. d ≡ b - 48) }
 {
-    let b = *text.get(place)?;
     if b.is_ascii_digit() {
         Some(u32::from(b - b'0'))
     } else {
         None
+    }
+}
+
+/// How many digits a number at the front of the text may have.
+fn most_digits(text: &[u8]) -> usize
+    ensures few { result ≤ MAX_DIGITS }
+    ensures within { result ≤ length text.now }
+{
+    if text.len() < MAX_DIGITS {
+        text.len()
+    } else {
+        MAX_DIGITS
     }
 }
 
@@ -37,8 +47,9 @@ fn digits_of(text: &[u8]) -> Digits
 {
     let mut value = 0;
     let mut count = 0;
-    while count < MAX_DIGITS {
-        let Some(digit) = digit_at(text, count) else {
+    let most = most_digits(text);
+    while count < most {
+        let Some(digit) = digit_of(text[count]) else {
             break;
         };
         value = value * 10 + digit;
@@ -69,7 +80,7 @@ fn first_digit(text: &[u8]) -> Option<(u32, &[u8])>
     if text.len() < 2 || text[1] != b' ' {
         return None;
     }
-    let digit = digit_at(text, 0)?;
+    let digit = digit_of(text[0])?;
     Some((digit, &text[2..]))
 }
 
