@@ -124,6 +124,21 @@ number_space text count value h lt is = record {
 no_digit : (text : Bytes) → BeginsWith text 0 0
 no_digit text = record { few = omega arith; within = omega arith; digits = refl; value = refl }
 
+-- one digit with a space behind it
+pub one_digit : (text : Bytes) (d : ℕ)
+    → 0 < length text
+    → is_ascii_digit (get_or text 0 0) ≡ true
+    → d ≡ get_or text 0 0 - 48
+    → 1 < length text
+    → get_or text 1 0 ≡ 32
+    → IsFirstNumber text d (Some (take (length text - 2) (drop 2 text)))
+one_digit text d some is e more space =
+    let grown = grows text 0 0 d (no_digit text) (lit< tt) some is e in
+    let value : 0 * 10 + d ≡ d = omega arith in
+    let one : BeginsWith text 1 d = subst (λ (v : ℕ). BeginsWith text 1 v) value grown.1 in
+    number_space text 1 d
+    (leads text 1 d one (lit< tt) (λ several. absurd (omega (arith, several)))) more space
+
 pub number_sign : (sign : ℕ) (text : Bytes) (count value : ℕ)
     → IsLeading text count value
     → count < length text
@@ -132,154 +147,6 @@ pub number_sign : (sign : ℕ) (text : Bytes) (count value : ℕ)
 number_sign sign text count value h lt is = record {
   front = take count text;
   cut = split text count sign lt is;
-  digits = h.digits;
-  spells = h.spells;
-}
-
--- one digit, and more
-begins_one : (text : Bytes) (a : ℕ)
-    → 0 < length text
-    → is_ascii_digit (get_or text 0 0) ≡ true
-    → a ≡ get_or text 0 0 - 48
-    → BeginsWith text 1 a
-begins_one text a some is e =
-    let grown = grows text 0 0 a (no_digit text) (lit< tt) some is e in
-    let value : 0 * 10 + a ≡ a = omega arith in
-    subst (λ (v : ℕ). BeginsWith text 1 v) value grown.1
-
-pub begins_two : (text : Bytes) (a b : ℕ)
-    → 0 < length text
-    → is_ascii_digit (get_or text 0 0) ≡ true
-    → a ≡ get_or text 0 0 - 48
-    → 1 < length text
-    → is_ascii_digit (get_or text 1 0) ≡ true
-    → b ≡ get_or text 1 0 - 48
-    → (a * 10 + b < 2 ^ 32) × BeginsWith text 2 (a * 10 + b)
-begins_two text a b some is e more is_b e_b =
-    grows text 1 a b (begins_one text a some is e) (lit< tt) more is_b e_b
-
-pub begins_three : (text : Bytes) (a b c : ℕ)
-    → 0 < length text
-    → is_ascii_digit (get_or text 0 0) ≡ true
-    → a ≡ get_or text 0 0 - 48
-    → 1 < length text
-    → is_ascii_digit (get_or text 1 0) ≡ true
-    → b ≡ get_or text 1 0 - 48
-    → 2 < length text
-    → is_ascii_digit (get_or text 2 0) ≡ true
-    → c ≡ get_or text 2 0 - 48
-    → ((a * 10 + b) * 10 + c < 2 ^ 32) × BeginsWith text 3 ((a * 10 + b) * 10 + c)
-begins_three text a b c some is e more is_b e_b third is_c e_c =
-    grows text 2 (a * 10 + b) c (begins_two text a b some is e more is_b e_b).1 (lit< tt) third is_c
-    e_c
-
--- and a sign behind them
-pub one_before : (sign : ℕ) (text : Bytes) (a : ℕ)
-    → 0 < length text
-    → is_ascii_digit (get_or text 0 0) ≡ true
-    → a ≡ get_or text 0 0 - 48
-    → 1 < length text
-    → get_or text 1 0 ≡ sign
-    → IsNumberBefore sign text a (take (length text - 2) (drop 2 text))
-one_before sign text a some is e more at = number_sign sign text 1 a
-    (leads text 1 a (begins_one text a some is e) (lit< tt)
-    (λ several. absurd (omega (arith, several)))) more at
-
-pub two_before : (sign : ℕ) (text : Bytes) (a b : ℕ)
-    → 0 < length text
-    → is_ascii_digit (get_or text 0 0) ≡ true
-    → a ≡ get_or text 0 0 - 48
-    → a ≢ 0
-    → is_ascii_digit (get_or text 1 0) ≡ true
-    → b ≡ get_or text 1 0 - 48
-    → 3 < length text
-    → get_or text 2 0 ≡ sign
-    → IsNumberBefore sign text (a * 10 + b) (take (length text - 3) (drop 3 text))
-two_before sign text a b some is e first is_b e_b long at = number_sign sign text 2 (a * 10 + b)
-    (leads text 2 (a * 10 + b) (begins_two text a b some is e (omega (arith, long)) is_b e_b).1
-    (lit< tt) (λ _ zero_first. first (omega (arith, e, zero_first)))) (omega (arith, long)) at
-
-pub three_before : (sign : ℕ) (text : Bytes) (a b c : ℕ)
-    → 0 < length text
-    → is_ascii_digit (get_or text 0 0) ≡ true
-    → a ≡ get_or text 0 0 - 48
-    → a ≢ 0
-    → is_ascii_digit (get_or text 1 0) ≡ true
-    → b ≡ get_or text 1 0 - 48
-    → is_ascii_digit (get_or text 2 0) ≡ true
-    → c ≡ get_or text 2 0 - 48
-    → 3 < length text
-    → get_or text 3 0 ≡ sign
-    → IsNumberBefore sign text ((a * 10 + b) * 10 + c) (take (length text - 4) (drop 4 text))
-three_before sign text a b c some is e first is_b e_b is_c e_c long at =
-    let begun = begins_three text a b c some is e (omega (arith, long)) is_b e_b
-    (omega (arith, long)) is_c e_c in
-    number_sign sign text 3 ((a * 10 + b) * 10 + c)
-    (leads text 3 ((a * 10 + b) * 10 + c) begun.1 (lit< tt)
-    (λ _ zero_first. first (omega (arith, e, zero_first)))) long at
-
--- one digit that is all of the text, and two
-pub one_whole : (text : Bytes) (a : ℕ)
-    → 0 < length text
-    → is_ascii_digit (get_or text 0 0) ≡ true
-    → a ≡ get_or text 0 0 - 48
-    → length text ≡ 1
-    → IsFirstNumber text a None
-one_whole text a some is e whole = number_whole text 1 a
-    (leads text 1 a (begins_one text a some is e) (lit< tt)
-    (λ several. absurd (omega (arith, several)))) (sym whole)
-
-pub two_whole : (text : Bytes) (a b : ℕ)
-    → 0 < length text
-    → is_ascii_digit (get_or text 0 0) ≡ true
-    → a ≡ get_or text 0 0 - 48
-    → a ≢ 0
-    → 1 < length text
-    → is_ascii_digit (get_or text 1 0) ≡ true
-    → b ≡ get_or text 1 0 - 48
-    → length text ≤ 2
-    → IsFirstNumber text (a * 10 + b) None
-two_whole text a b some is e first more is_b e_b whole = number_whole text 2 (a * 10 + b)
-    (leads text 2 (a * 10 + b) (begins_two text a b some is e more is_b e_b).1 (lit< tt)
-    (λ _ zero_first. first (omega (arith, e, zero_first)))) (omega (arith, more, whole))
-
--- a sign behind four digits, and five
-pub four_before : (sign : ℕ) (text : Bytes) (front a : ℕ)
-    → BeginsWith text 3 front
-    → get_or text 0 0 ≢ 48
-    → is_ascii_digit (get_or text 3 0) ≡ true
-    → a ≡ get_or text 3 0 - 48
-    → 5 < length text
-    → get_or text 4 0 ≡ sign
-    → IsNumberBefore sign text (front * 10 + a) (take (length text - 5) (drop 5 text))
-four_before sign text front a begun first is e long at =
-    let more = grows text 3 front a begun (lit< tt) (omega (arith, long)) is e in
-    number_sign sign text 4 (front * 10 + a)
-    (leads text 4 (front * 10 + a) more.1 (lit< tt) (λ _. first)) (omega (arith, long)) at
-
-pub five_before : (sign : ℕ) (text : Bytes) (front a b : ℕ)
-    → BeginsWith text 3 front
-    → get_or text 0 0 ≢ 48
-    → is_ascii_digit (get_or text 3 0) ≡ true
-    → a ≡ get_or text 3 0 - 48
-    → is_ascii_digit (get_or text 4 0) ≡ true
-    → b ≡ get_or text 4 0 - 48
-    → 5 < length text
-    → get_or text 5 0 ≡ sign
-    → IsNumberBefore sign text ((front * 10 + a) * 10 + b) (take (length text - 6) (drop 6 text))
-five_before sign text front a b begun first is e is_b e_b long at =
-    let four = grows text 3 front a begun (lit< tt) (omega (arith, long)) is e in
-    let five = grows text 4 (front * 10 + a) b four.1 (lit< tt) (omega (arith, long)) is_b e_b in
-    number_sign sign text 5 ((front * 10 + a) * 10 + b)
-    (leads text 5 ((front * 10 + a) * 10 + b) five.1 (lit< tt) (λ _. first)) long at
-
--- a number with a space behind it is the first word
-pub number_before_space : (text : Bytes) (n : ℕ) (others : Bytes)
-    → IsNumberBefore 32 text n others
-    → IsFirstNumber text n (Some others)
-number_before_space text n others h = record {
-  word = h.front;
-  cut = h.cut;
   digits = h.digits;
   spells = h.spells;
 }

@@ -1,7 +1,7 @@
 //! Numbers at the front of a text, each read in one walk over its digits.
 
-ghost use Rattle.std.specs.Prelude.{◌≡◌, ◌≢◌, ◌<◌, ◌-◌, true, false, Some, None, IfSome};
-ghost use Rattle.std.specs.Prelude.{length, get_or, option_map};
+ghost use Rattle.std.specs.Prelude.{◌≡◌, ◌≢◌, ◌≤◌, ◌-◌, true, false, Some, IfSome, length, get_or};
+ghost use Rattle.std.specs.Prelude.{option_map};
 ghost use Rattle.pg_cert_lines.specs.Prelude.{is_ascii_digit, SPACE};
 ghost use Rattle.pg_cert_lines.specs.Numerals.{BeginsWith, IsLeading, IsFirstNumber};
 ghost use Rattle.pg_cert_lines.specs.Numerals.{IsNumberBefore, AreTwoNumbers};
@@ -17,17 +17,27 @@ struct Digits {
     count: usize,
 }
 
-/// The value of the digit at the place, if one stands there.
-fn digit_at(text: &[u8], place: usize) -> Option<u32>
-    ensures place { IfSome result (λ _. place < length text.now) }
-    ensures digit { IfSome result (λ _. is_ascii_digit (get_or text.now place 0) ≡ true) }
-    ensures value { IfSome result (λ d. d ≡ get_or text.now place 0 - 48) }
+/// The value of the byte, if it is a digit.
+fn digit_of(b: u8) -> Option<u32>
+    ensures digit { IfSome result (λ _. is_ascii_digit b ≡ true) }
+    ensures value { IfSome result (λ d. d ≡ b - 48) }
 {
-    let b = *text.get(place)?;
     if b.is_ascii_digit() {
         Some(u32::from(b - b'0'))
     } else {
         None
+    }
+}
+
+/// How many digits a number at the front of the text may have.
+fn most_digits(text: &[u8]) -> usize
+    ensures few { result ≤ MAX_DIGITS }
+    ensures within { result ≤ length text.now }
+{
+    if text.len() < MAX_DIGITS {
+        text.len()
+    } else {
+        MAX_DIGITS
     }
 }
 
@@ -37,8 +47,9 @@ fn digits_of(text: &[u8]) -> Digits
 {
     let mut value = 0;
     let mut count = 0;
-    while count < MAX_DIGITS {
-        let Some(digit) = digit_at(text, count) else {
+    let most = most_digits(text);
+    while count < most {
+        let Some(digit) = digit_of(text[count]) else {
             break;
         };
         value = value * 10 + digit;
@@ -61,81 +72,25 @@ fn leading(text: &[u8]) -> Option<Digits>
     Some(found)
 }
 
-/// The number of four or five digits that stands before the sign, and what stands after the sign.
-/// Three digits at the front write a number that doesn't begin with 0. Other numbers aren't found.
-#[tactic(auto, using(crate::proofs::DigitRuns::four_before, crate::proofs::DigitRuns::five_before))]
-fn longer_before(sign: u8, text: &[u8], front: u32) -> Option<(u32, &[u8])>
-    requires front { BeginsWith text.now 3 front }
-    requires first { get_or text.now 0 0 ≢ 48 }
-    ensures { IfSome result (λ p. IsNumberBefore sign text.now p.0 p.1.now) }
+/// The number of the first word, where it is one digit with a space after it, and the text of the
+/// other words.
+fn first_digit(text: &[u8]) -> Option<(u32, &[u8])>
+    ensures { IfSome result (λ p. IsFirstNumber text.now p.0 (Some p.1.now)) }
 {
-    if text.len() < 6 {
+    if text.len() < 2 || text[1] != b' ' {
         return None;
     }
-    let a = digit_at(text, 3)?;
-    if text[4] == sign {
-        return Some((front * 10 + a, &text[5..]));
-    }
-    let b = digit_at(text, 4)?;
-    if text[5] == sign {
-        return Some(((front * 10 + a) * 10 + b, &text[6..]));
-    }
-    None
-}
-
-/// The number of at most five digits that stands before the sign, and what stands after the sign.
-/// Other numbers aren't found, and some at the end of the text.
-#[tactic(auto, using(crate::proofs::DigitRuns::one_before, crate::proofs::DigitRuns::two_before, crate::proofs::DigitRuns::three_before))]
-fn short_before(sign: u8, text: &[u8]) -> Option<(u32, &[u8])>
-    ensures { IfSome result (λ p. IsNumberBefore sign text.now p.0 p.1.now) }
-{
-    let a = digit_at(text, 0)?;
-    if text.len() < 2 {
-        return None;
-    }
-    if text[1] == sign {
-        return Some((a, &text[2..]));
-    }
-    if a == 0 || text.len() < 4 {
-        return None;
-    }
-    let b = digit_at(text, 1)?;
-    if text[2] == sign {
-        return Some((a * 10 + b, &text[3..]));
-    }
-    let c = digit_at(text, 2)?;
-    if text[3] == sign {
-        return Some(((a * 10 + b) * 10 + c, &text[4..]));
-    }
-    longer_before(sign, text, (a * 10 + b) * 10 + c)
-}
-
-/// The number that the whole text is, if it has one digit or two.
-#[tactic(auto, using(crate::proofs::DigitRuns::one_whole, crate::proofs::DigitRuns::two_whole))]
-fn short_whole(text: &[u8]) -> Option<u32>
-    ensures { IfSome result (λ n. IsFirstNumber text.now n None) }
-{
-    let a = digit_at(text, 0)?;
-    if text.len() == 1 {
-        return Some(a);
-    }
-    if a == 0 || text.len() > 2 {
-        return None;
-    }
-    let b = digit_at(text, 1)?;
-    Some(a * 10 + b)
+    let digit = digit_of(text[0])?;
+    Some((digit, &text[2..]))
 }
 
 /// The number of the first word, and the text of the other words if there are any.
-#[tactic(auto, using(crate::proofs::DigitRuns::number_whole, crate::proofs::DigitRuns::number_space, crate::proofs::DigitRuns::number_before_space))]
+#[tactic(auto, using(crate::proofs::DigitRuns::number_whole, crate::proofs::DigitRuns::number_space))]
 pub(crate) fn first_number(text: &[u8]) -> Option<(u32, Option<&[u8]>)>
     ensures { IfSome result (λ p. IsFirstNumber text.now p.0 (option_map (λ w. w.now) p.1)) }
 {
-    if let Some((short, others)) = short_before(b' ', text) {
-        return Some((short, Some(others)));
-    }
-    if let Some(short) = short_whole(text) {
-        return Some((short, None));
+    if let Some((digit, others)) = first_digit(text) {
+        return Some((digit, Some(others)));
     }
     let found = leading(text)?;
     if found.count == text.len() {
@@ -152,9 +107,6 @@ pub(crate) fn first_number(text: &[u8]) -> Option<(u32, Option<&[u8]>)>
 fn number_before(sign: u8, text: &[u8]) -> Option<(u32, &[u8])>
     ensures { IfSome result (λ p. IsNumberBefore sign text.now p.0 p.1.now) }
 {
-    if let Some((short, behind)) = short_before(sign, text) {
-        return Some((short, behind));
-    }
     let found = leading(text)?;
     if found.count == text.len() {
         return None;

@@ -1,8 +1,8 @@
 //! The positions of nodes that have been checked, in few words.
 ghost use Rattle.std.specs.Prelude.{◌≡◌, ◌++◌, ◌∷◌, ◌*◌, ◌^◌, ◌<◌, ◌≤◌, ℕ, [], ◌↔◌, IsTrue, IfOk};
-ghost use Rattle.std.specs.Prelude.{Some, get_or, length, slice_get};
+ghost use Rattle.std.specs.Prelude.{Some, get_or, length, slice_get, take};
 ghost use Rattle.pg_check.specs.Prelude.{AreBelow, AreWithin, after, insert, members_below};
-ghost use Rattle.pg_check.specs.Prelude.{x_after, y_after};
+ghost use Rattle.pg_check.specs.Prelude.{words_of, x_after, y_after};
 ghost use Rattle.pg_check.specs.Marks.{set_at, no_turn, position_at, kept, HasTurnOf, AreFlat};
 ghost use Rattle.pg_check.specs.Marks.{AreMarksOf, HavePointsAfter, IsTurnAfter, KeepsPoints};
 ghost use Rattle.pg_check.specs.Marks.{IsNoWorseThanKept};
@@ -48,6 +48,33 @@ fn are_within(mine: &[u64], theirs: &[u64], count: usize) -> bool
     true
 }
 
+/// Whether so many words are the same.
+fn are_same(mine: &[u64], theirs: &[u64], count: usize) -> bool
+    requires mine { count ≤ length mine.now }
+    requires theirs { count ≤ length theirs.now }
+    ensures { IsTrue result ↔ (take count mine.now ≡ take count theirs.now) }
+{
+    for i in 0..count {
+        if mine[i] != theirs[i] {
+            return false;
+        }
+    }
+    true
+}
+
+/// Puts so many words of the set behind the words.
+fn push_row(words: &mut Vec<u64>, set: &PointSet, width: usize) -> Result<(), Memory>
+    requires { width ≤ 16 }
+    ensures { IfOk result
+        (λ _. words.new.items ≡ words.old.items ++ take width (words_of set.now)) }
+{
+    let row = set.words();
+    for i in 0..width {
+        words.push(row[i])?;
+    }
+    Ok(())
+}
+
 impl Marks {
     /// No position of the game yet.
     pub(crate) fn new(alloc: Global, g: &Game) -> Marks
@@ -75,9 +102,7 @@ impl Marks {
         requires below { AreBelow set.now (64 * self.now.width) }
         ensures { IsTrue result ↔ (set_at self.now.words.items self.now.width row ≡ set.now) }
     {
-        let start = self.width * row;
-        let words = &self.words[start..start + self.width];
-        words == &set.words()[..self.width]
+        are_same(&self.words[self.width * row..], set.words(), self.width)
     }
 
     /// Whether the set of this row is that one with the point put into it.
@@ -220,8 +245,8 @@ impl Marks {
         ensures flat { IfOk result (λ _. AreFlat self.new) }
         ensures kept { IfOk result (λ _. kept self.new ≡ kept self.old ++ p.now ∷ []) }
     {
-        self.words.extend_from_slice(&p.x.words()[..self.width])?;
-        self.words.extend_from_slice(&p.y.words()[..self.width])?;
+        push_row(&mut self.words, &p.x, self.width)?;
+        push_row(&mut self.words, &p.y, self.width)?;
         self.turns.push(Turn {
             side: p.turn,
             left: p.left,

@@ -1,5 +1,4 @@
 use Rattle.pg_cert_lines.specs.Numerals.{BeginsWith}
-use Rattle.pg_text.specs.declared.numbers.TheConstants.{MAX_DIGITS}
 use Rattle.std.proofs.Common.{◌-◌}
 use Rattle.pg_cert_lines.proofs.numerals.digits_of.Given as goal
 
@@ -7,4 +6,4 @@ abbrev pub invariant-loop-count : goal.invariant-loop-count
 invariant-loop-count l = BeginsWith l.text l.count l.value
 
 abbrev pub decreases-loop-count : goal.decreases-loop-count
-decreases-loop-count l = MAX_DIGITS - l.count
+decreases-loop-count l = l.most - l.count

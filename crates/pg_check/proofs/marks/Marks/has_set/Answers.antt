@@ -1,18 +1,30 @@
-use Rattle.std.proofs.Common.{◌≡◌, ◌∙◌, ◌+◌, ◌-◌, ◌*◌, ℕ, List, length, take, drop, sym, ap, arith}
-use Rattle.pg_check.proofs.FlatMarks.{set-iff, eq-iff, row-within}
+use Rattle.std.proofs.Common.{◌≡◌, ◌∙◌, ◌+◌, ◌-◌, ◌*◌, ◌≤◌, ℕ, List, length, take, drop, sym, ap}
+use Rattle.std.proofs.Common.{arith}
+use Rattle.std.proofs.Common.{refl}
+use Rattle.pg_check.proofs.Common.{length-drop, take_all}
+use Rattle.pg_check.proofs.FlatMarks.{set-iff, row-within}
+use Rattle.pg_check.proofs.RowsWithin.{rest-long}
 use Rattle.pg_check.proofs.marks.Marks.has_set.Goals as goal
+
+pub are_same-requires-clause-mine : goal.are_same-requires-clause-mine
+are_same-requires-clause-mine c = rest-long c.args.self.now c.args.row c.deref.result.now
+    c.requires.flat c.requires.row c.deref.ensures.value
 
 pub returns : goal.returns
 returns c =
     let m = c.args.self.now in
     let start = m.width * c.args.row in
-    let size : (start + m.width) - start ≡ m.width = omega arith in
-    let found = take ((start + m.width) - start) (drop start c.deref.result.now) in
-    let is = ap (λ (n : ℕ). take n (drop start c.deref.result.now)) size
-    ∙ ap (λ (l : List ℕ). take m.width (drop start l)) c.deref.ensures.value in
+    let all = c.deref.result.now in
+    let rest = take (length all - start) (drop start all) in
+    let rest_is : rest ≡ drop start m.words.items =
+    take_all (length all - start) (drop start all)
+    (let n = length-drop start all in omega (arith, n)) ∙ ap (drop start) c.deref.ensures.value in
+    let found = take m.width rest in
+    let is = ap (λ (l : List ℕ). take m.width l) rest_is in
     let inside = row-within m.width c.args.row (2 * length m.turns.items) c.requires.row in
     let iff = set-iff m.words.items m.width c.args.row c.args.set.now found c.requires.flat.few
     c.requires.flat.fit (omega (arith, inside, c.requires.flat.count)) c.requires.below is in
-    let test = eq-iff c.eq.result found (take m.width c.words.result.now) c.eq.ensures in
-    let words = ap (λ (l : List ℕ). take m.width l) c.words.ensures.words in
-    (λ on. iff.0 (test.0 on ∙ words), λ s. test.1 (iff.1 s ∙ sym words))
+    let words = ap (λ (l : List ℕ). take m.width l) c.words.ensures.words in (
+      λ on. iff.0 (c.are_same.ensures.0 on ∙ words),
+      λ s. c.are_same.ensures.1 (iff.1 s ∙ sym words),
+    )

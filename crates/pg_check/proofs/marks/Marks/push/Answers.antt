@@ -8,8 +8,8 @@ returns-clause-flat c =
     let m = c.args.self.now in
     let p = c.args.p.now in
     let words =
-    rows-of m.words.items _ _ m.width p.x p.y _ _ c.words.ensures.words c.words-2.ensures.words
-    c.in_ok-extend_from_slice.ensures.items c.in_ok-extend_from_slice-2.ensures.items in
+    rows-of m.words.items _ _ m.width p.x p.y _ _ refl refl c.in_ok-push_row.ensures
+    c.in_ok-push_row-2.ensures in
     flat-more m _ p
     (record { side = p.turn; left = p.left }) c.requires.flat refl words c.in_ok-push.ensures.items
     (subst Fit (sym words)
@@ -21,7 +21,7 @@ returns-clause-kept c =
     let m = c.args.self.now in
     let p = c.args.p.now in
     let words =
-    rows-of m.words.items _ _ m.width p.x p.y _ _ c.words.ensures.words c.words-2.ensures.words
-    c.in_ok-extend_from_slice.ensures.items c.in_ok-extend_from_slice-2.ensures.items in
+    rows-of m.words.items _ _ m.width p.x p.y _ _ refl refl c.in_ok-push_row.ensures
+    c.in_ok-push_row-2.ensures in
     kept-more m _ p (record { side = p.turn; left = p.left }) c.requires.flat refl c.requires.x
     c.requires.y words c.in_ok-push.ensures.items refl refl
