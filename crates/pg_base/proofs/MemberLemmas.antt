@@ -1,58 +1,15 @@
 -- The members of a set in ascending order.
-use Rattle.std.proofs.Common.{◌≡◌, ◌≢◌, ℕ, zero, suc, ◌+◌, ◌<◌, ◌≤◌, Bool, true, false, ◌&&◌, List}
-use Rattle.std.proofs.Common.{[], ◌∷◌, ◌++◌, length, add-one, refl, sym, ap, ◌∙◌, arith, ltb, inl}
-use Rattle.std.proofs.Common.{inr}
+use Rattle.std.proofs.Common.{◌≡◌, ◌≢◌, ℕ, zero, suc, ◌+◌, ◌<◌, ◌≤◌, Bool, true, false, ◌&&◌}
+use Rattle.std.proofs.Common.{length, refl, sym, ap, ◌∙◌, arith, ltb, inl, inr}
 use Rattle.std.specs.Prelude.{nat_lt, nat_eq, nat_le, filter}
 use Rattle.pg_base.proofs.Common.{list_any, range_with_len, AllByRecursion, IsStrictlyIncreasing}
 use Rattle.pg_base.proofs.Common.{FinSet, contains, from_list, contains-from_list_nat, nat_cmp}
 use Rattle.pg_base.proofs.Common.{cases_Bool, cases_eq, eq-eqb, ne_eqb, and_right, nat_tests}
-use Rattle.pg_base.proofs.Common.{append-nil, length-filter, count_by-le-length}
+use Rattle.pg_base.proofs.Common.{length-filter, count_by-le-length}
 use Rattle.pg_base.proofs.Common.{IsStrictlyIncreasing-filter, length-range_with_len}
 use Rattle.pg_base.proofs.Common.{get_or-range_with_len}
-use Rattle.pg_base.specs.Points.{points_below, one_where, AreBelow}
+use Rattle.pg_base.specs.Points.{points_below, AreBelow}
 use Rattle.pg_base.specs.WordLemmas.{same_points}
-
--- ---- one by one
-
-pub points_start : (s : FinSet nat_cmp) → points_below s 0 ≡ []
-unfolding points_below
-points_start s = refl
-
-filter-range_more : (p : ℕ → Bool) (a n v : ℕ)
-    → a + n ≡ v
-    → filter p (range_with_len a (suc n)) ≡ filter p (range_with_len a n) ++ one_where (p v) v
-filter-range_more p a zero v e =
-    let here : a ≡ v = omega arith in
-    elim (cases_Bool (p v)) [
-      | inl on ↦ rw (here, on) refl
-      | inr off ↦ rw (here, off) refl
-    ]
-filter-range_more p a (suc n) v e =
-    let others = filter-range_more p (a + 1) n v (omega arith) in
-    elim (cases_Bool (p a)) [
-      | inl on ↦ rw on (ap (λ (t : List ℕ). a ∷ t) others)
-      | inr off ↦ rw off others
-    ]
-
--- one number more
-pub points_more : (s : FinSet nat_cmp) (n : ℕ)
-    → points_below s (n + 1) ≡ points_below s n ++ one_where (contains s n) n
-unfolding points_below
-points_more s n = rw add-one (filter-range_more (contains s) 0 n n (omega arith))
-
--- one number more, which is a member
-pub points_with : (s : FinSet nat_cmp) (n : ℕ)
-    → contains s n ≡ true
-    → points_below s (n + 1) ≡ points_below s n ++ n ∷ []
-points_with s n on = points_more s n ∙ ap (λ b. points_below s n ++ one_where b n) on
-
--- one number more, which is no member
-pub points_without : (s : FinSet nat_cmp) (n : ℕ)
-    → contains s n ≡ false
-    → points_below s (n + 1) ≡ points_below s n
-points_without s n off = points_more s n
-    ∙ ap (λ b. points_below s n ++ one_where b n) off
-    ∙ append-nil (points_below s n)
 
 -- ---- what they are
 

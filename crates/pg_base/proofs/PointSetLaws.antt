@@ -1,6 +1,6 @@
 -- Laws of sets of points: as tests, by their members, and how sets lie to one another.
 use Rattle.std.proofs.Common.{◌≡◌, ◌≢◌, ℕ, zero, suc, ◌+◌, ◌<◌, ◌≤◌, Bool, true, false, not, ◌&&◌}
-use Rattle.std.proofs.Common.{◌||◌, eqb, refl, sym, ap, subst, ◌∙◌, ◌⊎◌, inl, inr, eq-eqb, ne_eqb}
+use Rattle.std.proofs.Common.{◌||◌, eqb, refl, sym, ap, ◌∙◌, ◌⊎◌, inl, inr, eq-eqb, ne_eqb}
 use Rattle.std.proofs.Common.{arith, cond}
 use Rattle.pg_base.proofs.Common.{fun_ext, cases_eq, cases_Bool, or_cases, or_left, or_right}
 use Rattle.pg_base.proofs.Common.{and_parts, both_ways, eqb-true, false_from_ne_true, FinSet}
@@ -9,7 +9,7 @@ use Rattle.pg_base.proofs.Common.{contains-empty, contains-union, contains-diffe
 use Rattle.pg_base.proofs.Common.{len-empty, nat_cmp_total, nat_cmp}
 use Rattle.pg_base.specs.WordLemmas.{in_insert, in_remove, same_points}
 use Rattle.pg_base.specs.PointLemmas.{equal, equal-decides}
-use Rattle.pg_base.specs.Points.{AreBelow, ShareNone, AreWithin}
+use Rattle.pg_base.specs.Points.{AreBelow}
 use Rattle.pg_base.specs.Sets.{plus, minus, either, outside, count}
 use Rattle.pg_base.proofs.SetLemmas.{count_same, one_if_le}
 
