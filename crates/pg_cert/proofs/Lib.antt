@@ -1,2 +1,1 @@
 mod Common
-pub mod Printed

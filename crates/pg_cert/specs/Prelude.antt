@@ -1,6 +1,5 @@
 -- What the definitions of this crate name of std and of the crates below.
-pub use Rattle.pg_base.specs.Points.{AreBelow, members, one_where}
-unfoldable pub use Rattle.pg_base.specs.Points.{points_below}
+pub use Rattle.pg_base.specs.Points.{AreBelow, members}
 pub use Rattle.pg_base.specs.Side.{other, side_word}
 pub use Rattle.pg_base.specs.declared.kind.Kind.{Kind}
 pub use Rattle.pg_base.specs.declared.kind.Kind.TheVariants.{AvoiderEnforcer, MakerBreaker}
@@ -9,7 +8,7 @@ pub use Rattle.pg_base.specs.declared.limits.TheConstants.{MAX_MEMBERS}
 pub use Rattle.pg_base.specs.declared.pair.Pair.{Pair}
 pub use Rattle.pg_base.specs.declared.side.Side.{Side}
 pub use Rattle.pg_base.specs.declared.side.Side.TheVariants.{X, Y}
-pub use Rattle.pg_base.specs.declared.signs.TheConstants.{BAR, LINE_FEED, SPACE}
+pub use Rattle.pg_base.specs.declared.signs.TheConstants.{BAR, LINE_FEED}
 pub use Rattle.pg_game.specs.Avoider.{AvoiderHolds, avoider_answer}
 pub use Rattle.pg_game.specs.Game.{after, bias_of, free_points, is_over, outcome, point_count}
 pub use Rattle.pg_game.specs.Game.{with_turn}

@@ -1,7 +1,7 @@
 -- The printed text of a certificate.
 use Rattle.std.specs.Prelude.{ℕ, nat_lt, if◌then◌else◌, Bool, true, false, List, [], ◌∷◌, ◌++◌}
 use Rattle.std.specs.Prelude.{length, map, codes}
-use Rattle.pg_cert.specs.Prelude.{FinSet, decimal, flat_map, nat_cmp, BAR, LINE_FEED, SPACE}
+use Rattle.pg_cert.specs.Prelude.{FinSet, decimal, flat_map, nat_cmp, BAR, LINE_FEED}
 use Rattle.pg_cert.specs.Prelude.{side_word, Side, members, Pair, Bytes, spaced}
 use Rattle.pg_base.specs.Goal.{goal_word}
 use Rattle.pg_cert.specs.declared.reply.Reply.{Reply}
@@ -12,12 +12,6 @@ use Rattle.pg_cert.specs.declared.cert.Claim.{Claim}
 use Rattle.pg_cert.specs.declared.cert.Cert.{Cert}
 use Rattle.pg_cert.specs.declared.cert.Version.{Version}
 use Rattle.pg_cert.specs.declared.cert.Version.TheVariants.{One, Two}
-
--- the first number, behind a space if others stand before it
-abbrev pub separated : Bool → List ℕ → Bytes
-separated begun [] = []
-separated true (n ∷ ns) = SPACE ∷ decimal n
-separated false (n ∷ ns) = decimal n
 
 -- the points of a set as words
 abbrev pub set_words : FinSet nat_cmp → List Bytes

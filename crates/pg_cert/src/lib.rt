@@ -18,5 +18,5 @@ pub use node::{Body, Node, Nodes, with_e_named};
 pub use node_fault::NodeFault;
 pub use node_part::NodePart;
 pub use part::Part;
-pub use printing::{print_cert, print_node};
+pub use printing::{print_cert, print_node, put_field, put_set, put_turn};
 pub use reply::{Replies, Reply};

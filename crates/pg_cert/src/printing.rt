@@ -1,74 +1,48 @@
 //! The text of a certificate.
 
-ghost use Rattle.std.specs.Prelude.{◌≡◌, ◌<◌, ◌||◌, true, ◌++◌, ◌∷◌, [], map, OnOk, IfOk};
-ghost use Rattle.std.specs.Prelude.{string_bytes};
-ghost use Rattle.pg_cert.specs.Prelude.{contains, decimal, flat_map, one_where, MAX_MEMBERS, BAR};
-ghost use Rattle.pg_cert.specs.Prelude.{spaced, behind_spaces};
+ghost use Rattle.std.specs.Prelude.{◌≡◌, ◌++◌, ◌∷◌, [], map, OnOk, IfOk, string_bytes};
+ghost use Rattle.pg_cert.specs.Prelude.{decimal, flat_map, BAR, spaced, behind_spaces};
 ghost use Rattle.pg_cert.specs.Limits.{IsNode, IsWithinLimits};
-ghost use Rattle.pg_cert.specs.Print.{separated, set_words, reply_word, pair_word, e_words};
+ghost use Rattle.pg_cert.specs.Print.{set_words, reply_word, pair_word, e_words};
 ghost use Rattle.pg_cert.specs.Print.{edge_words, body_name, body_words, body_text, turn_word};
 ghost use Rattle.pg_cert.specs.Print.{node_text, claim_text, header, printed_certificate};
 
 use crate::cert::{Cert, Claim, Version};
 use crate::node::{Body, Node};
 use crate::reply::Reply;
-use pg_base::{MAX_MEMBERS, Memory, Pair, PointSet, Side};
+use pg_base::{Members, Memory, Pair, PointSet, Side};
 use std::alloc::{AllocError, Global};
 use std::fmt::Write;
 
-/// Puts a point where it is in the set, after a space unless it is the first; tells whether a
-/// point was put.
-fn put_next(out: &mut String, set: &PointSet, p: u16, begun: bool) -> Result<bool, AllocError>
-    requires { p < MAX_MEMBERS }
-    ensures text { OnOk result
-        (string_bytes out.new
-        ≡ string_bytes out.old ++ separated begun (one_where (contains set.now p) p)) }
-    ensures begun { IfOk result (λ now. now ≡ (begun || contains set.now p)) }
-{
-    if !set.has(p) {
-        return Ok(begun);
-    }
-    if begun {
-        write!(out, " {p}")?;
-        return Ok(true);
-    }
-    write!(out, "{p}")?;
-    Ok(true)
-}
-
 /// Puts the points of a set, with a space between each two.
-fn put_field(out: &mut String, set: &PointSet) -> Result<(), AllocError>
+pub fn put_field(out: &mut String, set: &PointSet) -> Result<(), AllocError>
     ensures { OnOk result
         (string_bytes out.new ≡ string_bytes out.old ++ spaced (set_words set.now)) }
 {
-    let mut begun = false;
-    for p in 0..MAX_MEMBERS {
-        begun = put_next(out, set, p, begun)?;
-    }
-    Ok(())
-}
-
-/// Puts a point after a space where it is in the set.
-fn put_member(out: &mut String, set: &PointSet, p: u16) -> Result<(), AllocError>
-    requires { p < MAX_MEMBERS }
-    ensures { OnOk result
-        (string_bytes out.new
-        ≡ string_bytes out.old ++ separated true (one_where (contains set.now p) p)) }
-{
-    if !set.has(p) {
+    let mut members = Members::of(set);
+    let Some(first) = members.next() else {
         return Ok(());
-    }
-    write!(out, " {p}")?;
-    Ok(())
+    };
+    write!(out, "{first}")?;
+    put_members(out, members)
 }
 
 /// Puts the points of a set, each after a space.
-fn put_set(out: &mut String, set: &PointSet) -> Result<(), AllocError>
+pub fn put_set(out: &mut String, set: &PointSet) -> Result<(), AllocError>
     ensures { OnOk result
         (string_bytes out.new ≡ string_bytes out.old ++ behind_spaces (set_words set.now)) }
 {
-    for p in 0..MAX_MEMBERS {
-        put_member(out, set, p)?;
+    put_members(out, Members::of(set))
+}
+
+/// Puts members of a set, each after a space.
+fn put_members(out: &mut String, members: Members) -> Result<(), AllocError>
+    ensures { OnOk result
+        (string_bytes out.new
+        ≡ string_bytes out.old ++ behind_spaces (map decimal members.entry)) }
+{
+    for v in members {
+        write!(out, " {v}")?;
     }
     Ok(())
 }
@@ -202,7 +176,7 @@ fn put_move(out: &mut String, point: u16, child: u32) -> Result<(), AllocError>
 
 /// Puts a turn: the side, and how many points it still claims, where these are several.
 #[tactic(auto, unfolding(crate::specs::Print::turn_word))]
-fn put_turn(out: &mut String, turn: Side, left: u8) -> Result<(), AllocError>
+pub fn put_turn(out: &mut String, turn: Side, left: u8) -> Result<(), AllocError>
     ensures { OnOk result (string_bytes out.new ≡ string_bytes out.old ++ turn_word turn left) }
 {
     let side = turn.word();
