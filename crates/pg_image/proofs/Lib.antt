@@ -1,5 +1,4 @@
 mod Common
-pub mod Walk
 pub mod ImageRead
 pub mod Whole
 pub mod Shadows

@@ -1,12 +1,10 @@
 -- What the definitions of this crate name of std and of the crates below.
-pub use Rattle.pg_base.specs.Points.{IsLeastFrom, members, one_where}
-unfoldable pub use Rattle.pg_base.specs.Points.{points_below}
 pub use Rattle.pg_base.specs.declared.side.Side.{Side}
 pub use Rattle.pg_base.specs.declared.signs.TheConstants.{BAR, LINE_FEED, SPACE}
 pub use Rattle.pg_cert.specs.Limits.{ArePoints, IsBody, IsClaim, IsNode, IsTurn, IsWithinLimits}
 pub use Rattle.pg_cert.specs.Limits.{has_body, node_count}
 pub use Rattle.pg_cert.specs.Print.{body_name, body_text, body_words, count_words, node_text}
-pub use Rattle.pg_cert.specs.Print.{separated, set_words}
+pub use Rattle.pg_cert.specs.Print.{set_words}
 unfoldable pub use Rattle.pg_cert.specs.Print.{turn_word}
 pub use Rattle.pg_cert.specs.declared.cert.Claim.{Claim}
 pub use Rattle.pg_cert.specs.declared.cert.Version.{Version}

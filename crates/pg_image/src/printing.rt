@@ -1,7 +1,6 @@
 //! The text of a certificate with images.
 ghost use Rattle.std.specs.Prelude.{◌≡◌, ◌++◌, ◌∷◌, [], length, OnOk, IfOk, string_bytes};
-ghost use Rattle.pg_image.specs.Prelude.{All, flat_map, LINE_FEED, spaced, separated, set_words};
-ghost use Rattle.pg_image.specs.Prelude.{turn_word, count_words};
+ghost use Rattle.pg_image.specs.Prelude.{All, flat_map, LINE_FEED, spaced, count_words};
 ghost use Rattle.pg_image.specs.Limits.{IsImageNode, IsImageClaim, IsImageWithinLimits};
 ghost use Rattle.pg_image.specs.Print.{position_fields, image_words, image_node_text};
 ghost use Rattle.pg_image.specs.Print.{image_claim_words, image_claim_text};
@@ -10,46 +9,10 @@ ghost use Rattle.pg_image.specs.Print.{printed_image_certificate};
 use crate::cert::{ImageCert, ImageClaim};
 use crate::node::ImageNode;
 use pg_base::{Memory, PointSet, Side};
-use pg_cert::print_node;
+use pg_cert::{print_node, put_field, put_turn};
 use pg_maps::GridMap;
 use std::alloc::{AllocError, Global};
 use std::fmt::Write;
-
-/// Puts a point, after a space unless it is the first.
-fn put_point(out: &mut String, p: u16, begun: bool) -> Result<(), AllocError>
-    ensures { OnOk result
-        (string_bytes out.new ≡ string_bytes out.old ++ separated begun (p ∷ [])) }
-{
-    if begun {
-        out.push_str(" ")?;
-    }
-    write!(out, "{p}")?;
-    Ok(())
-}
-
-/// Puts the points of a set, with a space between each two.
-fn put_field(out: &mut String, set: &PointSet) -> Result<(), AllocError>
-    ensures { OnOk result
-        (string_bytes out.new ≡ string_bytes out.old ++ spaced (set_words set.now)) }
-{
-    let mut next = 0;
-    while let Some(v) = set.first_from(next) {
-        put_point(out, v, next > 0)?;
-        next = v + 1;
-    }
-    Ok(())
-}
-
-/// Puts a turn: the side, and how many points it still claims, where these are several.
-fn put_turn(out: &mut String, turn: Side, left: u8) -> Result<(), AllocError>
-    ensures { OnOk result (string_bytes out.new ≡ string_bytes out.old ++ turn_word turn left) }
-{
-    out.push_str(turn.word())?;
-    if left > 1 {
-        write!(out, "{left}")?;
-    }
-    Ok(())
-}
 
 /// Puts the three fields of a position, each with a bar after it.
 #[tactic(auto, unfolding(crate::specs::Print::position_fields))]
