@@ -1,10 +1,10 @@
 //! The marks of a position as lists.
-ghost use Rattle.std.specs.Prelude.{◌≡◌, ◌<◌, IfOk};
+ghost use Rattle.std.specs.Prelude.{◌≡◌, IfOk};
 ghost use Rattle.pg_base.specs.Points.{members};
 
-use pg_base::{Memory, PointSet};
+use pg_base::{Members, Memory, PointSet};
 use pg_game::Position;
-use std::alloc::Global;
+use std::alloc::{AllocError, Global};
 
 /// The points of each side, ascending.
 #[derive(Debug, Drop)]
@@ -14,16 +14,10 @@ pub(crate) struct Marks {
 }
 
 /// The members of a set, ascending.
-fn members_of(alloc: Global, set: &PointSet) -> Result<Vec<u16>, Memory>
+fn members_of(alloc: Global, set: &PointSet) -> Result<Vec<u16>, AllocError>
     ensures { IfOk result (λ list. list.items ≡ members set.now) }
 {
-    let mut list = Vec::new(alloc);
-    let mut next = 0;
-    while let Some(v) = set.first_from(next) {
-        list.push(v)?;
-        next = v + 1;
-    }
-    Ok(list)
+    Members::of(set).collect(alloc)
 }
 
 /// The marks of a position.
