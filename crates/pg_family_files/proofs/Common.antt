@@ -13,7 +13,7 @@ pub use Rattle.pg_family_files.specs.Prelude.{marked, members, nat_cmp, number, 
 pub use Rattle.pg_family_files.specs.Prelude.{number_words, numbers, numbers_of, onto, parts}
 pub use Rattle.pg_family_files.specs.Prelude.{repeats, rest, second_number, set_of, set_words}
 pub use Rattle.pg_family_files.specs.Prelude.{side_of, side_word, spaced, spelled}
-unfoldable pub use Rattle.pg_family_files.specs.Prelude.{lines, points_below, reading, words}
+unfoldable pub use Rattle.pg_family_files.specs.Prelude.{lines, reading, words}
 pub use Rattle.pg_base.proofs.MemberLemmas.{from_list-points_below, points_below-ascend}
 pub use Rattle.pg_base.proofs.MemberLemmas.{points_below-each, points_below-length}
 pub use Rattle.pg_base.proofs.MemberLemmas.{points_below-small}

@@ -1,11 +1,10 @@
 -- What the definitions of this crate name of std and of the crates below.
-pub use Rattle.pg_base.specs.Points.{AreBelow, ShareNone, members, one_where}
-unfoldable pub use Rattle.pg_base.specs.Points.{points_below}
+pub use Rattle.pg_base.specs.Points.{AreBelow, ShareNone, members}
 pub use Rattle.pg_base.specs.Side.{side_of, side_word}
 pub use Rattle.pg_base.specs.declared.limits.TheConstants.{MAX_EDGES, MAX_MEMBERS}
 pub use Rattle.pg_base.specs.declared.side.Side.{Side}
 pub use Rattle.pg_base.specs.declared.signs.TheConstants.{SPACE}
-pub use Rattle.pg_cert.specs.Print.{separated, set_words}
+pub use Rattle.pg_cert.specs.Print.{set_words}
 pub use Rattle.pg_cert.specs.declared.limits.TheConstants.{MAX_CLAIMS}
 pub use Rattle.pg_cert_lines.specs.Form.{has_one_slash, is_slash}
 pub use Rattle.pg_cert_lines.specs.NodeLine.{after_slash, before_slash}

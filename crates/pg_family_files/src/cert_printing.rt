@@ -1,39 +1,14 @@
 //! The text of a connectivity game's certificate.
-ghost use Rattle.std.specs.Prelude.{◌≡◌, ◌<◌, true, ◌++◌, map, OnOk, IfOk, string_bytes};
-ghost use Rattle.pg_family_files.specs.Prelude.{contains, decimal, flat_map, one_where};
-ghost use Rattle.pg_family_files.specs.Prelude.{MAX_MEMBERS, separated, set_words, behind_spaces};
-ghost use Rattle.pg_family_files.specs.Prelude.{spelled};
+ghost use Rattle.std.specs.Prelude.{◌≡◌, ◌++◌, map, OnOk, IfOk, string_bytes};
+ghost use Rattle.pg_family_files.specs.Prelude.{decimal, flat_map, behind_spaces, spelled};
 ghost use Rattle.pg_family_files.specs.SpanCertPrint.{IsWithinRanges, body_words, claim_lines};
 ghost use Rattle.pg_family_files.specs.SpanCertPrint.{first_words, printed_span};
 
-use pg_base::{MAX_MEMBERS, Memory, PointSet};
+use pg_base::Memory;
+use pg_cert::put_set;
 use pg_span::{SpanBody, SpanCert, SpanClaim};
 use std::alloc::{AllocError, Global};
 use std::fmt::Write;
-
-/// Puts an edge after a space where it is in the set.
-fn put_member(out: &mut String, set: &PointSet, p: u16) -> Result<(), AllocError>
-    requires { p < MAX_MEMBERS }
-    ensures { OnOk result
-        (string_bytes out.new
-        ≡ string_bytes out.old ++ separated true (one_where (contains set.now p) p)) }
-{
-    if set.has(p) {
-        write!(out, " {p}")?;
-    }
-    Ok(())
-}
-
-/// Puts the edges of a set, each after a space.
-fn put_set(out: &mut String, set: &PointSet) -> Result<(), AllocError>
-    ensures { OnOk result
-        (string_bytes out.new ≡ string_bytes out.old ++ behind_spaces (set_words set.now)) }
-{
-    for p in 0..MAX_MEMBERS {
-        put_member(out, set, p)?;
-    }
-    Ok(())
-}
 
 /// Puts numbers, each after a space.
 fn put_numbers(out: &mut String, numbers: &[u16]) -> Result<(), AllocError>

@@ -3,7 +3,7 @@ ghost use Rattle.std.specs.Prelude.{◌≡◌, ◌≤◌, length, IfOk, IsTrue, 
 ghost use Rattle.pg_files.specs.Prelude.{list_all, members, MAX_MEMBERS, empty};
 ghost use Rattle.pg_files.specs.Sets.{set_of, ascending, repeats};
 
-use pg_base::{Line, LineFault, MAX_MEMBERS, Memory, PointSet};
+use pg_base::{Line, LineFault, Members, Memory, PointSet};
 use std::alloc::{AllocError, Global};
 
 /// Whether each number is below the limit.
@@ -75,15 +75,8 @@ pub fn line_of(alloc: Global, numbers: &[u32]) -> Result<Line, Memory>
 }
 
 /// The points of the set in ascending order.
-#[tactic(auto, using(pg_base::proofs::MemberLemmas::points_with, pg_base::proofs::MemberLemmas::points_without, pg_base::proofs::MemberLemmas::points_start))]
 pub fn members(alloc: Global, set: &PointSet) -> Result<Vec<u16>, AllocError>
     ensures { IfOk result (λ points. points.items ≡ members set.now) }
 {
-    let mut points = Vec::new(alloc);
-    for p in 0..MAX_MEMBERS {
-        if set.has(p) {
-            points.push(p)?;
-        }
-    }
-    Ok(points)
+    Members::of(set).collect(alloc)
 }

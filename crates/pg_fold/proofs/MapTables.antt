@@ -1,8 +1,8 @@
 -- What tables of maps tell.
-use Rattle.std.proofs.Common.{◌≡◌, ◌↔◌, ℕ, zero, suc, ◌*◌, ◌<◌, ◌≤◌, List, [], ◌∷◌, ◌++◌, map}
-use Rattle.std.proofs.Common.{get_or, Option, Some, None, refl, sym, ap, ap₂, ◌∙◌, subst, inl, inr}
+use Rattle.std.proofs.Common.{◌≡◌, ◌↔◌, ℕ, zero, suc, ◌*◌, ◌<◌, ◌≤◌, List, [], ◌∷◌, map}
+use Rattle.std.proofs.Common.{get_or, Option, Some, sym, ap, ap₂, ◌∙◌, subst, inl, inr}
 use Rattle.std.proofs.Common.{arith, slice_get}
-use Rattle.pg_fold.proofs.Common.{cases_lt, get_or_past, map_push, All-nil, All-cons, All-push}
+use Rattle.pg_fold.proofs.Common.{cases_lt, get_or_past, All-nil, All-cons}
 use Rattle.pg_fold.proofs.Common.{get_or-map-range_with_len, length-map-range_with_len, FinSet}
 use Rattle.pg_fold.proofs.Common.{from_list, All, AllByRecursion, AllPairs, Contains}
 use Rattle.pg_fold.proofs.Common.{range_with_len, nat_cmp, members, Grid, Game, Position, IsMapOf}
