@@ -28,14 +28,15 @@ pub replied-with : (p : Position) (v : ℕ) (old new : List Reply) (r : Reply)
     → new ≡ old ++ r ∷ []
     → AreRepliesBelow p v old
     → AreRepliesBelow p (v + 1) new
-replied-with p v old new r on at fit pushed h = subst (AreRepliesBelow p (v + 1)) (sym pushed) (record {
-  points = map_push (λ (q : Reply). q.point) old r
-      ∙ ap (λ (u : ℕ). map (λ (q : Reply). q.point) old ++ u ∷ []) at
-      ∙ ap (λ (vs : List ℕ). vs ++ v ∷ []) h.points
-      ∙ sym (passing-more (is_free p) v
-      ∙ ap (λ (b : Bool). filter (is_free p) (range_with_len 0 v) ++ cond b (v ∷ []) []) on);
-  numbers = All-push IsReply old r h.numbers fit;
-})
+replied-with p v old new r on at fit pushed h =
+    subst (AreRepliesBelow p (v + 1)) (sym pushed) (record {
+      points = map_push (λ (q : Reply). q.point) old r
+          ∙ ap (λ (u : ℕ). map (λ (q : Reply). q.point) old ++ u ∷ []) at
+          ∙ ap (λ (vs : List ℕ). vs ++ v ∷ []) h.points
+          ∙ sym (passing-more (is_free p) v
+          ∙ ap (λ (b : Bool). filter (is_free p) (range_with_len 0 v) ++ cond b (v ∷ []) []) on);
+      numbers = All-push IsReply old r h.numbers fit;
+    })
 
 pub replied-without : (p : Position) (v : ℕ) (old new : List Reply)
     → is_free p v ≡ false

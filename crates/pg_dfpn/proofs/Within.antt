@@ -89,7 +89,8 @@ fit-push g p body old new at plain room pushed h =
     subst AreFit (sym pushed) (record {
       few = let more = length_push old node in omega (arith, more, room);
       each = All-push IsNode old node h.each (node-within g p body at plain);
-      version = All-push (λ (n : Node). has_body One n.body ≡ true) old node h.version plain.version;
+      version =
+          All-push (λ (n : Node). has_body One n.body ≡ true) old node h.version plain.version;
     })
 
 -- ---- claims
@@ -119,7 +120,9 @@ pub put-few : {X Y E : Type 0} (r : Result (Option X) E) (old new : List Y) (mos
     → length new ≤ most
 put-few (Ok (Some x)) old new most added kept room = omega (arith, added, room)
 put-few (Ok None) old new most added kept room = omega (arith, added, room)
-put-few (Err e) old new most added kept room = let same = ap length kept in omega (arith, same, room)
+put-few (Err e) old new most added kept room =
+    let same = ap length kept in
+    omega (arith, same, room)
 
 pub not-full : (full : Bool) (most len : ℕ)
     → full ≡ false

@@ -2,6 +2,7 @@
 //! rows as they tell.
 #![tactic(auto)]
 
+mod settled;
 mod shared;
 
 use pg_plain::word;
@@ -12,6 +13,8 @@ use std::io;
 /// the row can't be read, or no memory is found.
 fn is_so(alloc: Global, question: &str, row: &str) -> Option<bool> {
     match question {
+        // whether X wins, with a claim that the checker accepts.
+        "settled" => settled::is_so(alloc, row),
         // the shared pairs that are found.
         "shared" => shared::is_so(alloc, row),
         _ => None,
