@@ -1,6 +1,7 @@
 //! Shared pairs at a position.
 ghost use Rattle.std.specs.Prelude.{◌≡◌, ◌<◌, IfOk, IfSome, length};
-ghost use Rattle.pg_shared.specs.Prelude.{All, AvoiderEnforcer, MAX_MEMBERS, Pair, len, free_points};
+ghost use Rattle.pg_shared.specs.Prelude.{All, AvoiderEnforcer, MAX_MEMBERS, Pair, len};
+ghost use Rattle.pg_shared.specs.Prelude.{free_points};
 ghost use Rattle.pg_shared.specs.Prelude.{IsPosition, PairsHold, avoider_can_pair, is_pairable};
 
 use crate::lines::{OpenLine, is_hopeless, least_lines, open_lines};
