@@ -1,7 +1,7 @@
 //! The weights of lines and points.
 ghost use Rattle.std.specs.Prelude.{◌≡◌, ◌≢◌, ℕ, ◌+◌, ◌^◌, ◌<◌, ◌≤◌, ◌==◌, ◌&&◌, length, get_or};
-ghost use Rattle.std.specs.Prelude.{unwrap_or, if◌then◌else◌};
-ghost use Rattle.pg_game.specs.Prelude.{All, find, IsStrictlyIncreasing, Switching};
+ghost use Rattle.std.specs.Prelude.{unwrap_or, if◌then◌else◌, ◌||◌};
+ghost use Rattle.pg_game.specs.Prelude.{All, contains, find, IsStrictlyIncreasing, Switching};
 ghost use Rattle.pg_game.specs.Position.{is_free};
 ghost use Rattle.pg_game.specs.Game.{free_points};
 ghost use Rattle.pg_game.specs.Potential.{greatest_length, is_on, line_weight, total_weight};
@@ -37,7 +37,7 @@ pub fn greatest_length(lines: &[Line]) -> usize
     longest
 }
 
-/// The base to the power of the exponent.
+/// The base to the power of the exponent; at once where the base is 2.
 fn power(base: u128, exponent: usize) -> u128
     requires some { 1 ≤ base }
     requires few { exponent ≤ MAX_LINE_POINTS }
@@ -51,23 +51,41 @@ fn power(base: u128, exponent: usize) -> u128
     }
 }
 
+/// The points that a side has, and those of the set.
+fn marked_with(p: &Position, own: &PointSet) -> PointSet
+    ensures { (v : ℕ)
+        → contains result v ≡ ((contains p.now.x v || contains p.now.y v) || contains own.now v) }
+{
+    p.x.union(&p.y).union(own)
+}
+
 /// The weight of a line: 0 where it has one of the points, else the base to the power of `longest`
-/// less its free points. It takes one walk over the line, up to the first of the points.
-fn line_weight(base: u128, longest: usize, own: &PointSet, p: &Position, line: &Line) -> u128
+/// less its free points. It takes one walk over the line, up to the first of the points. A point
+/// that isn't `marked` is free with one look.
+fn line_weight(
+    base: u128,
+    longest: usize,
+    own: &PointSet,
+    p: &Position,
+    marked: &PointSet,
+    line: &Line,
+) -> u128
     requires range { All (λ v. v < MAX_POINTS) line.now }
     requires some { 1 ≤ base }
     requires few { longest ≤ MAX_LINE_POINTS }
     requires short { length line.now ≤ longest }
     requires fits { base ^ longest ≤ 2 ^ MAX_LINE_POINTS }
+    requires marks { (v : ℕ)
+        → contains marked.now v
+        ≡ ((contains p.now.x v || contains p.now.y v) || contains own.now v) }
     ensures { result ≡ line_weight base longest own.now p.now line.now }
 {
     let mut free = 0;
     for v in line.as_slice() {
-        if own.has(*v) {
-            return 0;
-        }
-        if p.is_free(*v) {
+        if !marked.has(*v) {
             free += 1;
+        } else if own.has(*v) {
+            return 0;
         }
     }
     power(base, longest - free)
@@ -97,10 +115,11 @@ pub fn weigh(g: &Game, base: u128, own: &PointSet, p: &Position) -> Weights
 {
     let lines = g.lines();
     let longest = greatest_length(lines);
+    let marked = marked_with(p, own);
     let mut total = 0;
     let mut points = [0; MAX_POINTS];
     for line in lines {
-        let weight = line_weight(base, longest, own, p, line);
+        let weight = line_weight(base, longest, own, p, &marked, line);
         total += weight;
         add_weight(&mut points, line, weight);
     }
@@ -118,9 +137,10 @@ pub fn total_weight(g: &Game, base: u128, own: &PointSet, p: &Position) -> u128
 {
     let lines = g.lines();
     let longest = greatest_length(lines);
+    let marked = marked_with(p, own);
     let mut total = 0;
     for line in lines {
-        total += line_weight(base, longest, own, p, line);
+        total += line_weight(base, longest, own, p, &marked, line);
     }
     total
 }
@@ -130,7 +150,7 @@ pub fn full_weight(g: &Game, base: u128) -> u128
     requires { IsBaseOf base g.now }
     ensures { result ≡ full_weight base g.now }
 {
-    base.pow(greatest_length(g.lines()) as u32)
+    power(base, greatest_length(g.lines()))
 }
 
 /// Whether the point is free and has this weight.

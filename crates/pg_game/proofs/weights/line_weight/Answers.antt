@@ -12,9 +12,9 @@ returns-then-has c =
     let i = c.loop-v.v-index in
     let lt = subst (λ (xs : List ℕ). i < length xs) items c.loop-v-test.true in
     let at = ap (λ (xs : List ℕ). contains c.args.own.now (get_or xs i 0)) items in
-    let touched =
-    list_any-one (contains c.args.own.now) c.args.line.now (get_or c.args.line.now i 0)
-    (Contains-get_or c.args.line.now i 0 lt) (sym at ∙ sym c.has.ensures ∙ c.if-has.true) in
+    let touched = list_any-one (contains c.args.own.now) c.args.line.now
+    (get_or c.args.line.now i 0) (Contains-get_or c.args.line.now i 0 lt)
+    (sym at ∙ sym c.has-else-not-has.ensures ∙ c.if-has.true) in
     sym
     (line_weight-touched c.args.base c.args.longest c.args.own.now c.args.p.now c.args.line.now
     touched)
