@@ -1,6 +1,7 @@
 //! The weights of a board's lines and points.
-ghost use Rattle.std.specs.Prelude.{◌≡◌, ◌<◌, ◌≤◌, ◌+◌, ◌^◌, length, if◌then◌else◌};
-ghost use Rattle.pg_board.specs.Prelude.{Y, other, is_free, points_of, line_weight};
+ghost use Rattle.std.specs.Prelude.{◌≡◌, ◌<◌, ◌≤◌, ◌+◌, ◌^◌, ℕ, length, get_or, if◌then◌else◌};
+ghost use Rattle.pg_board.specs.Prelude.{All, IsStrictlyIncreasing, Y, other, is_free, is_on};
+ghost use Rattle.pg_board.specs.Prelude.{points_of, line_weight};
 ghost use Rattle.pg_board.specs.Shape.{line_in};
 ghost use Rattle.pg_board.specs.Fits.{position_of};
 ghost use Rattle.pg_board.specs.Totals.{live_with_in, total_in, weight_in, greatest_in, Agree};
@@ -9,6 +10,7 @@ ghost use Rattle.pg_board.specs.Totals.{IsBase};
 use crate::layout::Layout;
 use crate::points::is_unmarked;
 use pg_base::Side;
+use pg_game::{MAX_POINTS, Weights};
 use pg_undo::Trail;
 
 /// How many lines without a point of the side have so many free points.
@@ -37,6 +39,18 @@ pub(crate) fn total(layout: &Layout, trail: &Trail, side: Side, base: u128) -> u
     total
 }
 
+/// The base to the power of the exponent. A power of 2 takes one step.
+fn power(base: u128, exponent: u32) -> u128
+    requires { base ^ exponent < 2 ^ 128 }
+    ensures { result ≡ base ^ exponent }
+{
+    if base == 2 && exponent < 128 {
+        1 << exponent
+    } else {
+        base.pow(exponent)
+    }
+}
+
 /// What a line with none of the side's points weighs: the base to the power of `longest` less its
 /// free points.
 fn live_weight(layout: &Layout, trail: &Trail, side: Side, base: u128, line: u32) -> u128
@@ -52,7 +66,7 @@ fn live_weight(layout: &Layout, trail: &Trail, side: Side, base: u128, line: u32
     }
     let theirs = trail.get(layout.count_cell(side.other(), line));
     let free = layout.line(line).len() as u32 - theirs;
-    base.pow(u32::from(layout.longest()) - free)
+    power(base, u32::from(layout.longest()) - free)
 }
 
 /// The sum of the weights of the lines through the point.
@@ -104,4 +118,44 @@ pub(crate) fn greatest_weight(layout: &Layout, trail: &Trail, side: Side, base: 
         }
     }
     greatest
+}
+
+/// Adds the weight to that of each point of the line.
+fn add_weight(points: &mut [u128; MAX_POINTS], line: &[u32], weight: u128)
+    requires range { All (λ v. v < MAX_POINTS) line.now }
+    requires ascending { IsStrictlyIncreasing line.now }
+    requires count { length points.old ≡ MAX_POINTS }
+    requires fits { (v : ℕ) → v < MAX_POINTS → get_or points.old v 0 + weight < 2 ^ 128 }
+    ensures count { length points.new ≡ MAX_POINTS }
+    ensures added { (v : ℕ) → v < MAX_POINTS
+        → get_or points.new v 0 ≡ get_or points.old v 0 + (if is_on v line.now then weight else 0) }
+{
+    if weight == 0 {
+        return;
+    }
+    for v in line {
+        points[*v as usize] += weight;
+    }
+}
+
+/// The weights of the lines without a point of the side, of all together and of those through each
+/// point, by one walk over the lines.
+pub(crate) fn weigh(layout: &Layout, trail: &Trail, side: Side, base: u128) -> Weights
+    requires agrees { Agree layout.now trail.now.cells }
+    requires fits { IsBase base layout.now }
+    ensures total { result.total
+        ≡ total_in base layout.now (position_of layout.now trail.now.cells) side }
+    ensures count { length result.points ≡ MAX_POINTS }
+    ensures points { (v : ℕ) → v < MAX_POINTS → get_or result.points v 0
+        ≡ weight_in base layout.now (position_of layout.now trail.now.cells) side v }
+{
+    let mut points = [0; MAX_POINTS];
+    for line in 0..layout.lines() {
+        let weight = live_weight(layout, trail, side, base, line);
+        add_weight(&mut points, layout.line(line), weight);
+    }
+    Weights {
+        total: total(layout, trail, side, base),
+        points,
+    }
 }

@@ -14,9 +14,7 @@ use crate::criteria::answer_for;
 use pg_base::{Kind, Score, Side};
 use pg_board::Board;
 use pg_cert::Body;
-use pg_game::{
-    Position, Weights, breaker_of, defender, full_weight, may_attack, weigh, x_takes_last,
-};
+use pg_game::{Position, Weights, breaker_of, defender, full_weight, may_attack, x_takes_last};
 
 /// The weights of the lines at a position, for the potential that speaks to a question.
 #[derive(Debug, Drop)]
@@ -97,8 +95,7 @@ fn is_safe(b: &Board<'_>, q: &Position) -> bool
 impl Ahead {
     /// The weights at the position at which the board stands, for the question. It takes one walk
     /// over the lines.
-    pub fn look(b: &Board<'_>, question: Score, p: &Position) -> Ahead
-        requires { p.now ≡ b.now.stand.position }
+    pub fn look(b: &Board<'_>, question: Score) -> Ahead
         ensures { IsAhead question b.now result }
     {
         let g = b.game();
@@ -110,7 +107,7 @@ impl Ahead {
             breaker,
             base,
             limit: full_weight(g, base),
-            weights: weigh(g, base, p.points_of(breaker), p),
+            weights: b.weigh(breaker, base),
         }
     }
 
