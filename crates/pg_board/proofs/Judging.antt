@@ -11,7 +11,6 @@ use Rattle.pg_board.proofs.Common.{total, weight, greatest_weight, potential_hol
 use Rattle.pg_board.proofs.Common.{point_weight, full_weight, avoider_total, avoider_weight}
 use Rattle.pg_board.proofs.Common.{avoider_holds, free_points, Cells}
 use Rattle.pg_base.specs.declared.kind.Kind.{Kind}
-use Rattle.pg_game.specs.Potential.{IsBaseOf}
 use Rattle.pg_base.specs.declared.score.Score.{Score}
 use Rattle.pg_board.specs.Shape.{Shape, IsShape, shape_of, lines_holding, lines_through, degree_in}
 use Rattle.pg_board.specs.Shape.{turn_cell}
@@ -93,21 +92,6 @@ pub weight-of : (g : Game) (p : Position) (side : Side) (v : ℕ)
     → weight_in (1 + g.bias) (shape_of g) p side v ≡ weight g p side v
 unfolding weight_in point_weight
 weight-of g p side v = refl
-
--- to any base
-pub total-to : (base : ℕ) (g : Game) (p : Position) (side : Side)
-    → total_in base (shape_of g) p side ≡ total_weight base g (points_of p side) p
-unfolding total_in total_weight
-total-to base g p side = refl
-
-pub weight-to : (base : ℕ) (g : Game) (p : Position) (side : Side) (v : ℕ)
-    → weight_in base (shape_of g) p side v ≡ point_weight base g (points_of p side) p v
-unfolding weight_in point_weight
-weight-to base g p side v = refl
-
-pub base-of : (g : Game) (base : ℕ) → IsBaseOf base g → IsBase base (shape_of g)
-unfolding full_weight
-base-of g base ok = record { some = ok.some; few = ok.few }
 
 pub greatest-of : (g : Game) (p : Position) (side : Side)
     → greatest_in (1 + g.bias) (shape_of g) p side ≡ greatest_weight g p side

@@ -6,8 +6,7 @@ use Rattle.pg_board.proofs.Common.{cases_Bool, eq-eqb, ne_eqb, sum_by-le, sum_by
 use Rattle.pg_board.proofs.Common.{pow-le-pow_right, All, count_by, sum_by, filter, range_with_len}
 use Rattle.pg_board.proofs.Common.{contains, ShareNone, one_if, Side, X, Y, other, Position}
 use Rattle.pg_board.proofs.Common.{is_free, points_of, is_touched, is_on, line_weight, greatest}
-use Rattle.pg_board.proofs.Common.{points-le, line_weight-le, sum_by_more, take_all}
-use Rattle.pg_game.proofs.LineSums.{weight_on}
+use Rattle.pg_board.proofs.Common.{points-le, line_weight-le}
 use Rattle.pg_board.specs.Shape.{Shape, line_in, lines_through, lines_holding}
 use Rattle.pg_board.specs.Counts.{count_in, lines_in, lines_with, has_free, is_clear, free_by}
 use Rattle.pg_board.specs.Fits.{position_of, free_points_in}
@@ -202,50 +201,6 @@ module _ (s : Shape) (cells : List ℕ) (agree : Agree s cells) where
       let part = sum_by_more_le (λ i. line_weight base s.longest (points_of q side) q (line_in s i))
       (lines_through s v) j 0 low in
       omega (arith, part, through-sum base side v, weight-few base side v ok)
-
--- ---- the weights of points, line by line
-
-module _ (s : Shape) (cells : List ℕ) (agree : Agree s cells) (base : ℕ) (side : Side)
-    (v : ℕ) where
-  -- the weight so far with one line more
-  pub walk-fits : (i : ℕ)
-      → IsBase base s
-      → i < length s.lines
-      → sum_by (weight_on base s.longest (points_of (position_of s cells) side)
-      (position_of s cells) v) (take i s.lines)
-      + line_weight base s.longest (points_of (position_of s cells) side) (position_of s cells)
-      (line_in s i) ≤ 2 ^ 115
-  unfolding total_in
-  walk-fits i ok low =
-      let q = position_of s cells in
-      let le = points-le base s.longest (points_of q side) q v (take i s.lines) in
-      let more =
-      sum_by_more_le (line_weight base s.longest (points_of q side) q) s.lines i [] low in
-      omega (arith, le, more, total-few s cells agree base side ok)
-
-  pub walk-more : (i old now : ℕ)
-      → i < length s.lines
-      → old ≡ sum_by (weight_on base s.longest (points_of (position_of s cells) side)
-      (position_of s cells) v) (take i s.lines)
-      → now ≡ old + (if is_on v (line_in s i)
-      then line_weight base s.longest (points_of (position_of s cells) side) (position_of s cells)
-      (line_in s i)
-      else 0)
-      → now ≡ sum_by (weight_on base s.longest (points_of (position_of s cells) side)
-      (position_of s cells) v) (take (i + 1) s.lines)
-  walk-more i old now low before here =
-      let q = position_of s cells in
-      let more = sum_by_more (weight_on base s.longest (points_of q side) q v) s.lines i [] low in
-      omega (arith, before, here, more)
-
-  pub walk-all : (i : ℕ)
-      → length s.lines ≤ i
-      → sum_by (weight_on base s.longest (points_of (position_of s cells) side)
-      (position_of s cells) v) (take i s.lines) ≡ weight_in base s (position_of s cells) side v
-  unfolding weight_in
-  walk-all i end =
-      let q = position_of s cells in
-      ap (sum_by (weight_on base s.longest (points_of q side) q v)) (take_all i s.lines end)
 
 -- ---- the greatest weight
 

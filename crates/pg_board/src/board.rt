@@ -6,10 +6,7 @@ ghost use Rattle.pg_board.specs.Prelude.{is_free, point_count, lines_of, free_po
 ghost use Rattle.pg_board.specs.Prelude.{IsPosition, is_over, outcome, is_near, total, weight};
 ghost use Rattle.pg_board.specs.Prelude.{greatest_weight, potential_holds, avoider_total};
 ghost use Rattle.pg_board.specs.Prelude.{avoider_weight, avoider_holds};
-ghost use Rattle.pg_board.specs.Prelude.{points_of};
 ghost use Rattle.pg_game.specs.Decided.{by_end, defends};
-ghost use Rattle.pg_game.specs.Potential.{IsBaseOf};
-ghost use Rattle.pg_game.specs.Weights.{AreWeights};
 ghost use Rattle.pg_board.specs.Board.{line_at, degree, count_of, live_lines, live_with};
 ghost use Rattle.pg_board.specs.Near.{IsNearest, NoneNear};
 ghost use Rattle.pg_board.specs.Shape.{lines_holding};
@@ -22,7 +19,7 @@ use crate::points::{free_point, is_unmarked, left, marked, turn};
 use crate::rings::{Rings, whole_rings};
 use crate::totals;
 use pg_base::{Kind, Memory, Score, Side};
-use pg_game::{Game, MAX_POINTS, Position, Weights, at_least, defender, is_over_by, outcome_by};
+use pg_game::{Game, MAX_POINTS, Position, at_least, defender, is_over_by, outcome_by};
 use pg_undo::Trail;
 use std::alloc::Global;
 use std::marker::Model;
@@ -341,16 +338,6 @@ impl<'a> Board<'a> {
         ensures { result ≡ avoider_weight self.now.game self.now.stand.position v }
     {
         totals::weight(&self.layout, &self.trail, Side::Y, 2, v)
-    }
-
-    /// The weights to a base of the lines without a point of the side: of all together, and of
-    /// those through each point. It takes one walk over the lines.
-    pub fn weigh(&self, side: Side, base: u128) -> Weights
-        requires { IsBaseOf base self.now.game }
-        ensures { AreWeights base self.now.game (points_of self.now.stand.position side)
-            self.now.stand.position result }
-    {
-        totals::weigh(&self.layout, &self.trail, side, base)
     }
 
     /// Whether the potential is low enough for the side.

@@ -1,7 +1,6 @@
 //! The weights of a board's lines and points.
-ghost use Rattle.std.specs.Prelude.{◌≡◌, ◌<◌, ◌≤◌, ◌+◌, ◌^◌, ℕ, length, get_or, if◌then◌else◌};
-ghost use Rattle.pg_board.specs.Prelude.{All, IsStrictlyIncreasing, Y, other, is_free, is_on};
-ghost use Rattle.pg_board.specs.Prelude.{points_of, line_weight};
+ghost use Rattle.std.specs.Prelude.{◌≡◌, ◌<◌, ◌≤◌, ◌+◌, ◌^◌, length, if◌then◌else◌};
+ghost use Rattle.pg_board.specs.Prelude.{Y, other, is_free, points_of, line_weight};
 ghost use Rattle.pg_board.specs.Shape.{line_in};
 ghost use Rattle.pg_board.specs.Fits.{position_of};
 ghost use Rattle.pg_board.specs.Totals.{live_with_in, total_in, weight_in, greatest_in, Agree};
@@ -10,7 +9,6 @@ ghost use Rattle.pg_board.specs.Totals.{IsBase};
 use crate::layout::Layout;
 use crate::points::is_unmarked;
 use pg_base::Side;
-use pg_game::{MAX_POINTS, Weights};
 use pg_undo::Trail;
 
 /// How many lines without a point of the side have so many free points.
@@ -118,44 +116,4 @@ pub(crate) fn greatest_weight(layout: &Layout, trail: &Trail, side: Side, base: 
         }
     }
     greatest
-}
-
-/// Adds the weight to that of each point of the line.
-fn add_weight(points: &mut [u128; MAX_POINTS], line: &[u32], weight: u128)
-    requires range { All (λ v. v < MAX_POINTS) line.now }
-    requires ascending { IsStrictlyIncreasing line.now }
-    requires count { length points.old ≡ MAX_POINTS }
-    requires fits { (v : ℕ) → v < MAX_POINTS → get_or points.old v 0 + weight < 2 ^ 128 }
-    ensures count { length points.new ≡ MAX_POINTS }
-    ensures added { (v : ℕ) → v < MAX_POINTS
-        → get_or points.new v 0 ≡ get_or points.old v 0 + (if is_on v line.now then weight else 0) }
-{
-    if weight == 0 {
-        return;
-    }
-    for v in line {
-        points[*v as usize] += weight;
-    }
-}
-
-/// The weights of the lines without a point of the side, of all together and of those through each
-/// point, by one walk over the lines.
-pub(crate) fn weigh(layout: &Layout, trail: &Trail, side: Side, base: u128) -> Weights
-    requires agrees { Agree layout.now trail.now.cells }
-    requires fits { IsBase base layout.now }
-    ensures total { result.total
-        ≡ total_in base layout.now (position_of layout.now trail.now.cells) side }
-    ensures count { length result.points ≡ MAX_POINTS }
-    ensures points { (v : ℕ) → v < MAX_POINTS → get_or result.points v 0
-        ≡ weight_in base layout.now (position_of layout.now trail.now.cells) side v }
-{
-    let mut points = [0; MAX_POINTS];
-    for line in 0..layout.lines() {
-        let weight = live_weight(layout, trail, side, base, line);
-        add_weight(&mut points, layout.line(line), weight);
-    }
-    Weights {
-        total: total(layout, trail, side, base),
-        points,
-    }
 }
