@@ -37,6 +37,18 @@ pub(crate) fn total(layout: &Layout, trail: &Trail, side: Side, base: u128) -> u
     total
 }
 
+/// The base to the power of the exponent. A power of 2 takes one step.
+fn power(base: u128, exponent: u32) -> u128
+    requires { base ^ exponent < 2 ^ 128 }
+    ensures { result ≡ base ^ exponent }
+{
+    if base == 2 && exponent < 128 {
+        1 << exponent
+    } else {
+        base.pow(exponent)
+    }
+}
+
 /// What a line with none of the side's points weighs: the base to the power of `longest` less its
 /// free points.
 fn live_weight(layout: &Layout, trail: &Trail, side: Side, base: u128, line: u32) -> u128
@@ -52,7 +64,7 @@ fn live_weight(layout: &Layout, trail: &Trail, side: Side, base: u128, line: u32
     }
     let theirs = trail.get(layout.count_cell(side.other(), line));
     let free = layout.line(line).len() as u32 - theirs;
-    base.pow(u32::from(layout.longest()) - free)
+    power(base, u32::from(layout.longest()) - free)
 }
 
 /// The sum of the weights of the lines through the point.

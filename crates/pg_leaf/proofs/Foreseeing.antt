@@ -86,6 +86,23 @@ avoiding-is Switching on = absurd (false≢true on)
 pub avoiding-not : (kind : Kind) → is_avoiding kind ≡ false → kind ≢ AvoiderEnforcer
 avoiding-not kind off e = false≢true (sym off ∙ ap is_avoiding e)
 
+-- the base and the side of Avoider's weights, and the base of others
+pub avoider-parts : (kind : Kind) (bias : ℕ) (d : Side)
+    → is_avoiding kind ≡ true
+    → (base_for kind bias ≡ 2) × (breaker_of kind d ≡ Y)
+avoider-parts AvoiderEnforcer bias d on = (refl, refl)
+avoider-parts MakerBreaker bias d on = absurd (false≢true on)
+avoider-parts MakerMaker bias d on = absurd (false≢true on)
+avoider-parts Switching bias d on = absurd (false≢true on)
+
+pub other-base : (kind : Kind) (bias : ℕ)
+    → is_avoiding kind ≡ false
+    → base_for kind bias ≡ 1 + bias
+other-base AvoiderEnforcer bias off = absurd (false≢true (sym off))
+other-base MakerBreaker bias off = refl
+other-base MakerMaker bias off = refl
+other-base Switching bias off = refl
+
 -- ---- the potential, by the total
 
 fails-by : (total rest limit : ℕ) → limit ≤ total → ltb (total + rest) limit ≡ false
@@ -439,16 +456,11 @@ module _ (b : View) (q : Position) (v : ℕ) (m : IsMoveOf b q v) where
     ok : IsBaseOf a.base g
     ok = base-fits g g.kind a.base w.base
 
-    pub move-small : v < 256
-    move-small = omega (arith, m.range, few_points-lines g m.lines)
-
-    point-is : get_or a.weights.points v 0 ≡ point_weight a.base g own p v
-    point-is = w.weights.points v move-small
-
     -- where the move makes lines harmless
     pub total-mine : is_same_side a.breaker b.stand.position.turn ≡ true
-        → total_weight a.base b.game (points_of q a.breaker) q + get_or a.weights.points v 0
-        ≡ a.weights.total
+        → total_weight a.base b.game (points_of q a.breaker) q
+        + point_weight a.base b.game (points_of b.stand.position a.breaker) b.stand.position v
+        ≡ a.total
     total-mine mine =
         let turn : p.turn ≡ a.breaker = sym (same-side a.breaker p.turn mine) in
         let taken = total-taken g (stand_once g) a.base own p v m.free in
@@ -457,12 +469,13 @@ module _ (b : View) (q : Position) (v : ℕ) (m : IsMoveOf b q v) where
         ap (λ (x : Position). total_weight a.base g (points_of x a.breaker) x) m.leads
         ∙ ap (λ (s : FinSet nat_cmp). total_weight a.base g s next)
         (points_of-mover g p a.breaker v turn) in
-        omega (arith, taken, at, point-is, w.weights.total)
+        omega (arith, taken, at, w.total)
 
     -- where it makes none harmless
     pub total-yours : is_same_side a.breaker b.stand.position.turn ≡ false
         → total_weight a.base b.game (points_of q a.breaker) q
-        ≡ a.weights.total + (a.base - 1) * get_or a.weights.points v 0
+        ≡ a.total + (a.base - 1)
+        * point_weight a.base b.game (points_of b.stand.position a.breaker) b.stand.position v
     total-yours yours =
         let turn : p.turn ≡ other a.breaker = sym
         (ap other (other-side a.breaker p.turn yours) ∙ other_other p.turn) in
@@ -474,8 +487,7 @@ module _ (b : View) (q : Position) (v : ℕ) (m : IsMoveOf b q v) where
         ap (λ (x : Position). total_weight a.base g (points_of x a.breaker) x) m.leads
         ∙ ap (λ (s : FinSet nat_cmp). total_weight a.base g s next)
         (points_of-waiter g p a.breaker v turn) in
-        let weight = ap (λ k. n * k) point-is in
-        omega (arith, grown, at, weight, w.weights.total)
+        omega (arith, grown, at, w.total)
 
     pub after-few : total_weight a.base b.game (points_of q a.breaker) q ≤ 2 ^ 115
     after-few = total-few a.base g (points_of q a.breaker) q ok.some ok.few

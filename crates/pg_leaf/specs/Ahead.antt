@@ -4,8 +4,7 @@ use Rattle.pg_leaf.specs.Prelude.{AvoiderEnforcer, Body, Game, IsPosition, Maker
 use Rattle.pg_leaf.specs.Prelude.{Position, Score, Side, Switching, View, after, breaker_of}
 use Rattle.pg_leaf.specs.Prelude.{decided, defender, is_free, is_over, point_count, points_of}
 use Rattle.pg_base.specs.declared.kind.Kind.{Kind}
-use Rattle.pg_game.specs.Potential.{full_weight}
-use Rattle.pg_game.specs.Weights.{AreWeights}
+use Rattle.pg_game.specs.Potential.{full_weight, total_weight}
 use Rattle.pg_leaf.specs.Leaf.{IsLeaf}
 use Rattle.pg_leaf.specs.declared.ahead.Ahead.{Ahead}
 use Rattle.pg_leaf.specs.declared.ahead.Told.{Told}
@@ -31,8 +30,8 @@ pub record IsWeighed (b : View) (a : Ahead) : Type 0 where
   pub breaker : a.breaker ≡ breaker_of b.game.kind a.defender
   pub base : a.base ≡ base_for b.game.kind b.game.bias
   pub limit : a.limit ≡ full_weight a.base b.game
-  pub weights : AreWeights a.base b.game (points_of b.stand.position a.breaker) b.stand.position
-      a.weights
+  pub total : a.total
+      ≡ total_weight a.base b.game (points_of b.stand.position a.breaker) b.stand.position
 
 -- and the side that defends is that of the question
 pub record IsAhead (t : Score) (b : View) (a : Ahead) : Type 0 where

@@ -2,10 +2,10 @@
 ghost use Rattle.std.specs.Prelude.{◌≡◌, ◌<◌, ◌≤◌, ◌+◌, ℕ, length, true, false, IfSome};
 ghost use Rattle.pg_leaf.specs.Prelude.{Position, Score, Switching, after, attack_wins, defender};
 ghost use Rattle.pg_leaf.specs.Prelude.{defends, free_points, is_over, IsQuestion, pairs_exist};
-ghost use Rattle.pg_leaf.specs.Prelude.{point_count, points_of, MAX_POINTS};
+ghost use Rattle.pg_leaf.specs.Prelude.{breaker_of, point_count, points_of, Side};
 ghost use Rattle.pg_base.specs.Side.{is_same_side};
 ghost use Rattle.pg_board.specs.Board.{degree};
-ghost use Rattle.pg_game.specs.Potential.{total_weight};
+ghost use Rattle.pg_game.specs.Potential.{point_weight, total_weight};
 ghost use Rattle.pg_game.specs.Threat.{is_race};
 ghost use Rattle.pg_leaf.specs.Ahead.{base_for, is_avoiding, IsAhead, IsMoveOf, IsTold};
 ghost use Rattle.pg_leaf.specs.Ahead.{IsWeighed};
@@ -14,11 +14,9 @@ use crate::criteria::answer_for;
 use pg_base::{Kind, Score, Side};
 use pg_board::Board;
 use pg_cert::Body;
-use pg_game::{
-    Position, Weights, breaker_of, defender, full_weight, may_attack, weigh, x_takes_last,
-};
+use pg_game::{Position, breaker_of, defender, full_weight, may_attack, x_takes_last};
 
-/// The weights of the lines at a position, for the potential that speaks to a question.
+/// What the lines weigh at a position, for the potential that speaks to a question.
 #[derive(Debug, Drop)]
 pub struct Ahead {
     /// The side that defends.
@@ -29,8 +27,8 @@ pub struct Ahead {
     pub base: u128,
     /// What the total must stay below.
     pub limit: u128,
-    /// The total, and the weight of each point.
-    pub weights: Weights,
+    /// The sum of the weights of all lines.
+    pub total: u128,
 }
 
 /// What is told of the position after a move.
@@ -94,11 +92,22 @@ fn is_safe(b: &Board<'_>, q: &Position) -> bool
     b.live_with(mover, 2) == 0
 }
 
+/// The sum of the weights of all lines at the board's position, where the points of the side make a
+/// line harmless.
+fn total_of(b: &Board<'_>, breaker: Side) -> u128
+    ensures { (d : Side) → breaker ≡ breaker_of b.now.game.kind d
+        → result ≡ total_weight (base_for b.now.game.kind b.now.game.bias) b.now.game
+        (points_of b.now.stand.position breaker) b.now.stand.position }
+{
+    if is_avoiding(b.kind()) {
+        return b.avoider_total();
+    }
+    b.total(breaker)
+}
+
 impl Ahead {
-    /// The weights at the position at which the board stands, for the question. It takes one walk
-    /// over the lines.
-    pub fn look(b: &Board<'_>, question: Score, p: &Position) -> Ahead
-        requires { p.now ≡ b.now.stand.position }
+    /// What the lines weigh at the position at which the board stands, for the question.
+    pub fn look(b: &Board<'_>, question: Score) -> Ahead
         ensures { IsAhead question b.now result }
     {
         let g = b.game();
@@ -110,8 +119,21 @@ impl Ahead {
             breaker,
             base,
             limit: full_weight(g, base),
-            weights: weigh(g, base, p.points_of(breaker), p),
+            total: total_of(b, breaker),
         }
+    }
+
+    /// The sum of the weights of the lines through the point.
+    fn weight(&self, b: &Board<'_>, v: u16) -> u128
+        requires weighed { IsWeighed b.now self.now }
+        requires range { v < point_count b.now.game }
+        ensures { result ≡ point_weight self.now.base b.now.game
+            (points_of b.now.stand.position self.now.breaker) b.now.stand.position v }
+    {
+        if is_avoiding(b.kind()) {
+            return b.avoider_weight(v);
+        }
+        b.weight(self.breaker, v)
     }
 
     /// The total after a move to the point.
@@ -121,12 +143,11 @@ impl Ahead {
         ensures { (q : Position) → IsMoveOf b.now q v
             → result ≡ total_weight self.now.base b.now.game (points_of q self.now.breaker) q }
     {
-        let weight = self.weights.points[usize::from(v)];
-        let total = self.weights.total;
+        let weight = self.weight(b, v);
         if self.breaker.is_same(b.turn()) {
-            total - weight
+            self.total - weight
         } else {
-            total + (self.base - 1) * weight
+            self.total + (self.base - 1) * weight
         }
     }
 

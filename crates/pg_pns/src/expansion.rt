@@ -100,7 +100,7 @@ fn expand(
     let mut expansion = Expansion {
         place: k,
         position: p,
-        ahead: Ahead::look(board, asked.question, &p),
+        ahead: Ahead::look(board, asked.question),
         nexts: Moves::new(alloc),
     };
     for v in 0..asked.game.points() {

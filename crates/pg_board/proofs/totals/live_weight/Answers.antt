@@ -34,8 +34,8 @@ get-theirs-requires c =
       c.requires.agrees.counted.width,
     )
 
-pub pow-requires : goal.pow-requires
-pow-requires c =
+pub power-requires : goal.power-requires
+power-requires c =
     let longest = c.from.ensures ∙ c.longest.ensures in
     omega (
       arith,
@@ -60,7 +60,7 @@ returns c =
     ≡ c.args.layout.now.longest - (length (line_in c.args.layout.now c.args.line)
     - count_in c.args.layout.now c.args.trail.now.cells (other c.args.side) c.args.line) =
     omega (arith, longest, len, theirs) in
-    c.pow.ensures
+    c.power.ensures
     ∙ (ap (λ n. c.args.base ^ n) same
     ∙ weight-left c.args.layout.now c.args.trail.now.cells c.requires.agrees c.args.base c.args.side
     c.args.line c.requires.range (sym own ∙ c.if-get-ne0.false))

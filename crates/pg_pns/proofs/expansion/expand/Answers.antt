@@ -20,17 +20,6 @@ read-same g t list s k p r c is = one_at s.positions.items k p r c.at
     (slice_get_read s.positions.items (length s.positions.items) k r refl
     (slice_get_within s.positions.items k p c.at) is)
 
-pub look-requires : goal.look-requires
-look-requires c =
-    let can = c.requires.grows in
-    let reads = c.requires.reads can.1 can.2.at in
-    sym
-    (reads.stands.position
-    ∙ read-same c.args.asked.game.now c.args.asked.question can.0 c.args.table.now c.args.k can.1
-    c.index-positions-k.result can.2 (c.index-positions-k.is ∙ ap
-    (λ (qs : List Position). get_or qs c.args.k c.index-positions-k.result)
-    c.as_slice-positions.ensures.value))
-
 pub loop-v-init : goal.loop-v-init
 loop-v-init c = (
   record {
