@@ -1,16 +1,16 @@
 -- A certificate that is cut short has the first fault of the whole one, for every game.
-use Rattle.std.proofs.Common.{◌≡◌, ◌∙◌, ◌↔◌, ℕ, suc, ◌+◌, ◌<◌, ◌≤◌, Bool, true, false, List, []}
+use Rattle.std.proofs.Common.{◌≡◌, ◌∙◌, ◌↔◌, ℕ, suc, ◌<◌, Bool, true, false, List, []}
 use Rattle.std.proofs.Common.{◌∷◌, ◌++◌, length, map, get_or, Option, Some, None, Result, Ok, Err}
 use Rattle.std.proofs.Common.{slice_get, refl, sym, ap, ap₂, subst, inl, inr, arith, take}
-use Rattle.std.specs.Prelude.{◌||◌, ◌==◌, option_map, IsErrAnd, MatchResult}
-use Rattle.pg_judge.proofs.Common.{append-nil, length-map, Game, AreSoundBefore, FollowMoves}
+use Rattle.std.specs.Prelude.{◌==◌, option_map, IsErrAnd, MatchResult}
+use Rattle.pg_judge.proofs.Common.{length-map, Game, AreSoundBefore, FollowMoves}
 use Rattle.pg_judge.proofs.Common.{FollowsMove, HasWeaker, IsFirstFault, IsInGame, IsLeastFault}
-use Rattle.pg_judge.proofs.Common.{IsNodeOf, IsOwed, IsSound, IsValid, IsValidClaim, Passes, Cert}
+use Rattle.pg_judge.proofs.Common.{IsNodeOf, IsOwed, IsValid, IsValidClaim, Passes, Cert}
 use Rattle.pg_judge.proofs.Common.{Claim, Node, clash, share, short_body, short_cert, short_claim}
 use Rattle.pg_judge.proofs.Common.{short_node, short_pairs, twice, certificate, short_result}
 use Rattle.pg_judge.proofs.Common.{number_of}
 use Rattle.std.specs.List.{AllPairs, list_any, slice_index_or}
-use Rattle.std.proofs.lemmas.Bool.{cases_Bool, eqb-true, or_cases}
+use Rattle.std.proofs.lemmas.Bool.{eqb-true, or_cases}
 use Rattle.std.proofs.lemmas.Option.{slice_get-map}
 use Rattle.pg_base.specs.declared.limits.TheConstants.{MAX_MEMBERS}
 use Rattle.pg_base.specs.declared.pair.Pair.{Pair}
@@ -19,7 +19,6 @@ use Rattle.pg_game.specs.Pairs.{PairsHold, SharesNone, has_point}
 use Rattle.pg_game.specs.declared.position.Position.{Position}
 use Rattle.pg_game.specs.Weaker.{IsNoWorse}
 use Rattle.pg_cert.specs.Node.{position_of}
-use Rattle.pg_cert.specs.NodeFault.{fault_number}
 use Rattle.pg_cert.specs.declared.node.Body.{Body}
 use Rattle.pg_cert.specs.declared.node.Body.TheVariants.{Over, Move, All, Pairs, Potential, Trees}
 use Rattle.pg_cert.specs.declared.node.Body.TheVariants.{Cuts, Threat, Weaker}

@@ -5,7 +5,7 @@ use Rattle.std.specs.Prelude.{IfSome}
 use Rattle.pg_judge.proofs.Common.{append_assoc, append-nil, nil_from_length, take_all, length-drop}
 use Rattle.pg_judge.proofs.Common.{take-append-drop, length-append, Bytes, all_parts, claim_parts}
 use Rattle.pg_judge.proofs.Common.{parts_of, BeginCert, Cert, Claim, Node, Part, listed, IsFed}
-use Rattle.pg_judge.proofs.Common.{AreAllParts, parts_told, size_of, HasBeenFed, IsFedShort}
+use Rattle.pg_judge.proofs.Common.{AreAllParts, parts_told, size_of, IsFedShort}
 use Rattle.pg_judge.proofs.Common.{alike_more, alike_on, CertReader}
 use Rattle.pg_cert.specs.declared.part.Part.TheVariants as parts
 use Rattle.pg_check.specs.Checking.{StandsFor as IsChecked}

@@ -31,6 +31,6 @@ pub use Rattle.std.proofs.lemmas.List.{get_or-replicate, get_or-set_other, get_o
 pub use Rattle.std.proofs.lemmas.List.{get_or_default, length-set, take_more}
 pub use Rattle.std.proofs.lemmas.List.Elements.{All-contains, All-contains_itself, All-filter}
 pub use Rattle.std.proofs.lemmas.List.Elements.{All-get_or, All-head, All-nil, All-push, All-tail}
-pub use Rattle.std.proofs.lemmas.List.Elements.{All-weaker, Contains-get_or, filter_agree}
+pub use Rattle.std.proofs.lemmas.List.Elements.{All-weaker, Contains-get_or}
 pub use Rattle.std.proofs.lemmas.List.Elements.{filter_passes}
 pub use Rattle.std.proofs.lemmas.Option.{none-some, same_Some}

@@ -1,17 +1,17 @@
 -- The steps of the tests of pairs.
-use Rattle.std.proofs.Common.{All, Any, eqb-true, ◌≡◌, ◌≢◌, ℕ, ◌+◌, ◌<◌, Bool, true, false, cond}
+use Rattle.std.proofs.Common.{All, eqb-true, ◌≡◌, ◌≢◌, ℕ, ◌+◌, ◌<◌, Bool, true, false, cond}
 use Rattle.std.proofs.Common.{not, ◌&&◌, ◌||◌, List, [], ◌∷◌, ◌++◌, length, get_or, take, eqb}
 use Rattle.std.proofs.Common.{nat_lt, refl, sym, ap, ◌∙◌, subst, inl, inr, arith, eq-eqb, ne_eqb}
-use Rattle.std.proofs.Common.{ltb-true, lt-ltb, IsTrue, if◌then◌else◌, ◌≤◌, length-take-le}
-use Rattle.std.proofs.Common.{get_or-take, take_all}
+use Rattle.std.proofs.Common.{ltb-true, lt-ltb, IsTrue, if◌then◌else◌, length-take-le}
+use Rattle.std.proofs.Common.{get_or-take}
 use Rattle.pg_pairing.proofs.Common.{cases_eq, and_parts, and_from, or_parts, or_from, not-true}
 use Rattle.pg_pairing.proofs.Common.{not_from_false, false≢true, FinSet, contains, insert, nat_cmp}
 use Rattle.pg_pairing.proofs.Common.{Position, is_free, in_insert, Pair, Game, has_point, is_open}
-use Rattle.pg_pairing.proofs.Common.{AreOpenPairs, SharesNone, IsInGame, HoldsPair, HoldLines}
-use Rattle.pg_pairing.proofs.Common.{PairsHold, PairsLeaveNone, is_paired, unpaired, point_count}
-use Rattle.pg_pairing.proofs.Common.{free_points, AvoiderEnforcer, filter_agree, point_count-le}
+use Rattle.pg_pairing.proofs.Common.{AreOpenPairs, SharesNone, IsInGame, HoldLines}
+use Rattle.pg_pairing.proofs.Common.{PairsHold, PairsLeaveNone, point_count}
+use Rattle.pg_pairing.proofs.Common.{AvoiderEnforcer, point_count-le}
 use Rattle.pg_pairing.proofs.Common.{All-weaker, false-at, list_any-none, list_any-one}
-use Rattle.pg_pairing.proofs.Common.{member-from_any, Side, filter, list_any, Contains, take_more}
+use Rattle.pg_pairing.proofs.Common.{member-from_any, Side, list_any, Contains, take_more}
 use Rattle.pg_pairing.proofs.Common.{get_or_default, All-nil, All-push, All-get_or, Contains-get_or}
 use Rattle.pg_pairing.specs.Taking.{CanTake}
 use Rattle.std.proofs.lemmas.List.Folds.{list_any_more}

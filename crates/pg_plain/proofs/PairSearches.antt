@@ -1,11 +1,10 @@
 -- A private pair for a line, found point by point.
-use Rattle.std.proofs.Common.{◌≡◌, ℕ, zero, suc, ◌+◌, ◌<◌, ◌≤◌, Bool, true, false, not, ◌&&◌, ◌||◌}
+use Rattle.std.proofs.Common.{◌≡◌, ℕ, zero, suc, ◌<◌, ◌≤◌, Bool, true, false, not, ◌&&◌, ◌||◌}
 use Rattle.std.proofs.Common.{nat_lt, eqb, List, [], ◌∷◌, length, take, get_or, refl, sym, ap, ap₂}
 use Rattle.std.proofs.Common.{◌∙◌, inl, inr, arith, take_all, drop, ◌-◌, All}
 use Rattle.pg_plain.proofs.Common.{cases_Bool, or_right, list_any, filter, Contains, FinSet}
 use Rattle.pg_plain.proofs.Common.{nat_cmp, All-contains, All-filter, All-contains_itself, minus}
 use Rattle.pg_plain.proofs.Common.{is_touched, has_private_pairs, Contains-head, Contains-tail}
-use Rattle.std.proofs.lemmas.List.Folds.{list_any_more}
 use Rattle.pg_plain.specs.PairSearch.{untouched, have_pairs, is_lesser}
 use Rattle.pg_game.proofs.Lowest.{any_both}
 

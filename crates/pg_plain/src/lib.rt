@@ -1,7 +1,7 @@
 //! What tests stand on, and nothing of the product calls: a plain slow program whose contracts are
 //! the definitions of games (the value, the class, threat lines, private pairs, what is decided,
 //! and what a list of positions settles, each computed as it is defined), and readers of small
-//! games that tests tell as text.
+//! games and of scripts that tests tell as text.
 //!
 //! A game is written as `KIND COUNT TURN BIAS:LINES:X:Y`, with commas between lines and spaces
 //! between points; a text that goes on after a further `:` says what else the test needs. On a
@@ -16,6 +16,7 @@ mod games;
 mod leaves;
 mod private_pairs;
 mod settling;
+mod texts;
 mod threat_search;
 mod threats;
 mod words;
@@ -26,6 +27,7 @@ pub use criteria::{decided, pairs_exist};
 pub use games::{field, game, kind, side};
 pub use private_pairs::have_private_pairs;
 pub use settling::settled;
+pub use texts::{Named, folded, lines_of, texts_of, written_out};
 pub use threat_search::{attack_wins, has_threat_line};
 pub use threats::is_threat_line;
-pub use words::{numbers, pairs, part, set, word};
+pub use words::{cut, numbers, pairs, part, set, word};

@@ -1,11 +1,11 @@
 //! Texts as a script tells them: lines that end at `;`. A line `@NAME` stands for those of a named
 //! text, and `*N LINE` for N lines.
-use crate::entries::cut;
+use crate::words::cut;
 use std::alloc::{AllocError, Global};
 
 /// A text with its name.
 #[derive(Drop)]
-pub(crate) struct Named {
+pub struct Named {
     name: String,
     text: String,
 }
@@ -13,7 +13,7 @@ pub(crate) struct Named {
 /// The script with a line for each entry, after a line feed. A line that begins with two spaces
 /// goes on the entry above it, with `;` at its end. Empty lines and those that begin with `#` are
 /// left out.
-pub(crate) fn folded(alloc: Global, script: &str) -> Result<String, AllocError> {
+pub fn folded(alloc: Global, script: &str) -> Result<String, AllocError> {
     let mut text = String::new(alloc);
     for line in script.lines() {
         if line.starts_with("  ") {
@@ -30,12 +30,12 @@ pub(crate) fn folded(alloc: Global, script: &str) -> Result<String, AllocError> 
 
 /// The texts that the script names, each by a line `text NAME TEXT`. Its lines may stand for those
 /// of the texts before it.
-pub(crate) fn texts_of(alloc: Global, script: &str) -> Result<Vec<Named>, AllocError> {
+pub fn texts_of(alloc: Global, script: &str) -> Result<Vec<Named>, AllocError> {
     let mut texts = Vec::new(alloc);
     for line in script.lines() {
         if let Some(told) = line.strip_prefix("text ") {
             let (name, told) = cut(told);
-            let text = value(alloc, &texts, told)?;
+            let text = written_out(alloc, &texts, told)?;
             let name = String::from_str(alloc, name)?;
             texts.push(Named { name, text })?;
         }
@@ -45,7 +45,7 @@ pub(crate) fn texts_of(alloc: Global, script: &str) -> Result<Vec<Named>, AllocE
 
 /// The lines of the text with this name, without the last line feed: a word that says so where none
 /// has it.
-pub(crate) fn lines_of<'a>(texts: &'a [Named], name: &str) -> &'a str {
+pub fn lines_of<'a>(texts: &'a [Named], name: &str) -> &'a str {
     for text in texts {
         if text.name.as_str() == name {
             let lines = text.text.as_str();
@@ -57,7 +57,7 @@ pub(crate) fn lines_of<'a>(texts: &'a [Named], name: &str) -> &'a str {
 
 /// The text that is told. Spaces at both ends of a line don't count; `\s`, `\t`, `\r` and `\d` are
 /// a space, a tab, a carriage return and the sign of number 127.
-pub(crate) fn value(alloc: Global, texts: &[Named], told: &str) -> Result<String, AllocError> {
+pub fn written_out(alloc: Global, texts: &[Named], told: &str) -> Result<String, AllocError> {
     let mut text = String::new(alloc);
     let mut is_later = false;
     for line in told.split(';') {

@@ -13,6 +13,11 @@ pub fn word(text: &str, number: usize) -> &str {
     text.split_whitespace().nth(number).unwrap_or("")
 }
 
+/// The first word of a line, and what stands after the space after it.
+pub fn cut(line: &str) -> (&str, &str) {
+    line.split_once(' ').unwrap_or((line, ""))
+}
+
 /// The numbers of a text, unless some word is none, or no memory is found.
 pub fn numbers(alloc: Global, text: &str) -> Option<Vec<u16>> {
     let mut list = Vec::new(alloc);

@@ -3,7 +3,7 @@ pub use Rattle.pg_potential.specs.Prelude.{Contains, Forces, Game, IsPosition, M
 pub use Rattle.pg_potential.specs.Prelude.{MakerMaker, Position, PotentialHolds, Side, Switching}
 pub use Rattle.pg_potential.specs.Prelude.{Win, X, Y, after, bias_of, find, free_points, greatest}
 pub use Rattle.pg_potential.specs.Prelude.{greatest_weight, has_filled, is_free, is_full}
-pub use Rattle.pg_potential.specs.Prelude.{is_same_side, limit, lines_of, other, outcome}
+pub use Rattle.pg_potential.specs.Prelude.{is_same_side, limit, other, outcome}
 pub use Rattle.pg_potential.specs.Prelude.{point_count, point_weight, points_of, reaches}
 pub use Rattle.pg_potential.specs.Prelude.{times_counted, total, total_weight, weight}
 unfoldable pub use Rattle.pg_potential.specs.Prelude.{potential_answer}
@@ -13,4 +13,4 @@ pub use Rattle.pg_game.proofs.Greatest.{running-all, running-next, running-none}
 pub use Rattle.pg_game.proofs.Lowest.{find-some, find_same}
 pub use Rattle.pg_game.proofs.WeightBounds.{few_points-lines}
 pub use Rattle.std.proofs.Math.Nat.{add-mul, mul-le-mul_left}
-pub use Rattle.std.proofs.lemmas.Bool.{cases_Bool, cases_lt, false≢true}
+pub use Rattle.std.proofs.lemmas.Bool.{cases_lt, false≢true}

@@ -1,13 +1,13 @@
 -- A potential that holds forces the claim: a win for Breaker, and a draw at least for either side
 -- of Maker-Maker.
-use Rattle.std.proofs.Common.{◌≡◌, ◌≢◌, ℕ, zero, suc, ◌+◌, ◌-◌, ◌*◌, ◌<◌, ◌≤◌, Bool, true, false}
-use Rattle.std.proofs.Common.{◌==◌, if◌then◌else◌, List, [], ◌∷◌, map, Some, unwrap_or, eqb-true}
+use Rattle.std.proofs.Common.{◌≡◌, ◌≢◌, ℕ, ◌+◌, ◌-◌, ◌*◌, ◌<◌, ◌≤◌, Bool, true, false}
+use Rattle.std.proofs.Common.{◌==◌, if◌then◌else◌, List, [], ◌∷◌, map, unwrap_or, eqb-true}
 use Rattle.std.proofs.Common.{eq-eqb, refl, sym, ap, ◌∙◌, subst, inl, inr, arith}
-use Rattle.pg_potential.proofs.Common.{cases_Bool, cases_lt, false≢true, mul-le-mul_left, add-mul}
+use Rattle.pg_potential.proofs.Common.{cases_lt, mul-le-mul_left, add-mul}
 use Rattle.pg_potential.proofs.Common.{Contains, find, Win, MakerBreaker, MakerMaker, Side, X, Y}
 use Rattle.pg_potential.proofs.Common.{other, is_same_side, Game, Position, is_free, points_of}
 use Rattle.pg_potential.proofs.Common.{point_count, bias_of, free_points, has_filled, outcome}
-use Rattle.pg_potential.proofs.Common.{after, lines_of, IsPosition, total, weight, limit, greatest}
+use Rattle.pg_potential.proofs.Common.{after, IsPosition, total, weight, limit, greatest}
 use Rattle.pg_potential.proofs.Common.{greatest_weight, times_counted, PotentialHolds, total_weight}
 use Rattle.pg_potential.proofs.Common.{point_weight, potential_answer, reaches, Forces, free-member}
 use Rattle.pg_potential.proofs.Common.{member-free, member-within, greatest-le, greatest-ge}
@@ -17,7 +17,6 @@ use Rattle.std.specs.Ordering.{nat_cmp}
 use Rattle.pg_base.specs.declared.goal.Goal.{Goal}
 use Rattle.pg_base.specs.declared.goal.Goal.TheVariants.{Draw as AtLeastDraw}
 use Rattle.pg_game.specs.Strategy.{Keeps}
-use Rattle.pg_game.proofs.Members.{Contains-head, Contains-tail}
 use Rattle.pg_game.proofs.Moves.{points_of-mover, points_of-waiter, turn-stays, left-falls}
 use Rattle.pg_game.proofs.Moves.{turn-passes, left-passes, turn-replied, free-was, other_other}
 use Rattle.pg_game.proofs.Moves.{IsPosition-after}

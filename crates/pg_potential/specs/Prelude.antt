@@ -5,7 +5,7 @@ pub use Rattle.pg_base.specs.declared.kind.Kind.TheVariants.{MakerBreaker, Maker
 pub use Rattle.pg_base.specs.declared.side.Side.{Side}
 pub use Rattle.pg_base.specs.declared.side.Side.TheVariants.{X, Y}
 pub use Rattle.pg_game.specs.Game.{IsPosition, after, bias_of, free_points, has_filled, is_full}
-pub use Rattle.pg_game.specs.Game.{lines_of, outcome, point_count}
+pub use Rattle.pg_game.specs.Game.{outcome, point_count}
 pub use Rattle.pg_game.specs.Position.{is_free, points_of}
 pub use Rattle.pg_game.specs.Potential.{PotentialHolds, greatest, greatest_weight, limit}
 pub use Rattle.pg_game.specs.Potential.{point_weight, times_counted, total, total_weight, weight}

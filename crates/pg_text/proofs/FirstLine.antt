@@ -1,12 +1,11 @@
 -- A text is its first line and then the lines behind its line feed.
-use Rattle.std.proofs.Common.{◌≡◌, ℕ, ◌+◌, ◌<◌, ◌≤◌, Bool, false, List, [], ◌∷◌, ◌++◌, length, take}
-use Rattle.std.proofs.Common.{drop, eqb, arith, refl, ap, ◌∙◌, inl, inr}
-use Rattle.std.specs.Prelude.{◌==◌, Some, None}
-use Rattle.pg_text.proofs.Common.{slice_split, position, position_or_len, before_first, after_first}
-use Rattle.pg_text.proofs.Common.{All, cases_lt, nat_tests, take_all, drop_all, length-append}
-use Rattle.pg_text.proofs.Common.{length-drop, slice_split_at, slice_split_first, slice_split_none}
+use Rattle.std.proofs.Common.{◌≡◌, ℕ, ◌<◌, ◌≤◌, Bool, false, List, [], ◌∷◌, ◌++◌, length}
+use Rattle.std.proofs.Common.{eqb, arith, refl, ap, ◌∙◌}
+use Rattle.std.specs.Prelude.{◌==◌}
+use Rattle.pg_text.proofs.Common.{slice_split, position_or_len, after_first}
+use Rattle.pg_text.proofs.Common.{All, nat_tests, length-append}
+use Rattle.pg_text.proofs.Common.{length-drop, slice_split_at, slice_split_none}
 use Rattle.pg_text.proofs.Common.{length-slice_split, fails_before_first, LINE_FEED}
-use Rattle.pg_text.proofs.Cuts.{first_is}
 use Rattle.pg_text.specs.Text.{Bytes, Lacks, without_empty_end, lines}
 
 abbrev pub is_feed : ℕ → Bool

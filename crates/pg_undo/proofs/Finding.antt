@@ -1,6 +1,6 @@
 -- The first member of a list that passes a test, and the nearest number that passes.
 use Rattle.std.proofs.Common.{◌≡◌, ℕ, zero, suc, ◌+◌, ◌<◌, ◌≤◌, Bool, true, false, ◌&&◌, List, []}
-use Rattle.std.proofs.Common.{◌∷◌, Some, None, cond, refl, ap, ◌∙◌, inl, inr, arith}
+use Rattle.std.proofs.Common.{◌∷◌, Some, None, refl, ap, ◌∙◌, inl, inr, arith}
 use Rattle.std.specs.Prelude.{slice_get}
 use Rattle.std.proofs.lemmas.Bool.{cases_Bool, cases_eq, false≢true}
 use Rattle.std.specs.List.{filter, find, range_with_len}

@@ -1,6 +1,6 @@
 -- The lists that a ring was.
-use Rattle.std.proofs.Common.{◌≡◌, ℕ, zero, suc, ◌+◌, ◌<◌, ◌≤◌, Bool, true, false, not, ◌&&◌, List}
-use Rattle.std.proofs.Common.{[], ◌∷◌, ◌++◌, length, reverse, eqb, refl, sym, ap, ◌∙◌, inl, inr}
+use Rattle.std.proofs.Common.{◌≡◌, ℕ, zero, suc, ◌+◌, ◌<◌, Bool, true, not, ◌&&◌, List}
+use Rattle.std.proofs.Common.{[], ◌∷◌, ◌++◌, length, eqb, refl, sym, ap, ◌∙◌, inl, inr}
 use Rattle.std.proofs.Common.{arith, subst, length-append}
 use Rattle.std.proofs.lemmas.Bool.{cases_Bool}
 use Rattle.std.proofs.Common.{get_or}
@@ -10,7 +10,7 @@ use Rattle.std.specs.List.{filter, range_with_len, Contains, All}
 use Rattle.pg_base.specs.Sets.{minus, count, one_if}
 use Rattle.pg_base.proofs.SetLemmas.{count_minus}
 use Rattle.pg_undo.specs.Ring.{present, without}
-use Rattle.pg_undo.specs.Links.{remaining, is_left, history, AreLinks, IsOut}
+use Rattle.pg_undo.specs.Links.{remaining, is_left, history, AreLinks}
 
 filter-both : (a b : ℕ → Bool) (xs : List ℕ) → filter b (filter a xs) ≡ filter (λ v. a v && b v) xs
 filter-both a b [] = refl

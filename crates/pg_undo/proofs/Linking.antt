@@ -2,8 +2,8 @@
 use Rattle.std.proofs.Common.{◌≡◌, ◌≢◌, ℕ, zero, suc, ◌+◌, ◌-◌, ◌<◌, ◌≤◌, Bool, true, false, ◌||◌}
 use Rattle.std.proofs.Common.{List, [], ◌∷◌, length, get_or, set, eqb, refl, sym, ap, ◌∙◌, inl, inr}
 use Rattle.std.proofs.Common.{arith, subst}
-use Rattle.std.proofs.lemmas.Bool.{cases_Bool, cases_eq, false≢true, or_left, or_right, or_cases}
-use Rattle.std.proofs.lemmas.Bool.{or_from, eq-eqb, ne_eqb, eqb-true, and_left}
+use Rattle.std.proofs.lemmas.Bool.{cases_Bool, cases_eq, false≢true, or_left, or_right}
+use Rattle.std.proofs.lemmas.Bool.{or_from, eq-eqb, ne_eqb}
 use Rattle.std.specs.List.{Contains}
 use Rattle.pg_undo.specs.Links.{history}
 use Rattle.pg_undo.specs.Ring.{present}
@@ -11,7 +11,7 @@ use Rattle.pg_undo.proofs.Histories.{member-at, some-room}
 use Rattle.std.proofs.lemmas.List.{get_or_read, length-set, get_or-set_same, get_or-set_other}
 use Rattle.std.proofs.lemmas.List.{set-set, set-get_or}
 use Rattle.pg_base.specs.Sets.{minus}
-use Rattle.pg_base.proofs.SetLemmas.{minus_same, minus_self, minus_parts}
+use Rattle.pg_base.proofs.SetLemmas.{minus_same, minus_self}
 use Rattle.pg_undo.specs.Links.{slot, stands, Follows, AreLinked, AreLinks, IsOut, is_left}
 use Rattle.pg_undo.proofs.Finding.{least_from, greatest_below}
 

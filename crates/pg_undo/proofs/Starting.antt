@@ -1,11 +1,9 @@
 -- A ring as it is made.
-use Rattle.std.proofs.Common.{◌≡◌, ℕ, zero, suc, ◌+◌, ◌<◌, ◌≤◌, Bool, true, false, List, [], ◌∷◌}
+use Rattle.std.proofs.Common.{◌≡◌, ℕ, zero, suc, ◌+◌, ◌<◌, ◌≤◌, true, List, [], ◌∷◌}
 use Rattle.std.proofs.Common.{◌++◌, length, get_or, refl, sym, ap, ◌∙◌, inl, inr, arith}
-use Rattle.std.proofs.Common.{length-append}
-use Rattle.std.proofs.lemmas.Bool.{cases_lt, cases_eq, false≢true, or_left}
+use Rattle.std.proofs.lemmas.Bool.{cases_lt, false≢true}
 use Rattle.std.proofs.lemmas.List.{get_or_append_left, get_or_push, length_push}
-use Rattle.pg_undo.specs.Links.{slot, stands, Follows, AreLinked, AreLinks, is_left}
-use Rattle.pg_undo.proofs.Linking.{slot-of, slot-start, stands-left}
+use Rattle.pg_undo.specs.Links.{slot, stands, Follows, AreLinks, is_left}
 
 -- the arrays with the links of all numbers below i
 pub record AreFilled (n i : ℕ) (next previous : List ℕ) : Type 0 where

@@ -1,7 +1,6 @@
 -- A trail after changes that are undone is the trail before them.
 use Rattle.std.proofs.Common.{◌≡◌, ℕ, ◌+◌, ◌-◌, ◌<◌, ◌≤◌, List, [], ◌∷◌, ◌++◌, length, get_or, set}
-use Rattle.std.proofs.Common.{take, drop, refl, sym, ap, ◌∙◌, arith, append_assoc, length-append}
-use Rattle.std.proofs.Common.{length-drop}
+use Rattle.std.proofs.Common.{take, drop, refl, sym, ap, ◌∙◌, arith}
 use Rattle.std.proofs.lemmas.List.{set-set, set-get_or, take-append-drop, drop-append-le}
 use Rattle.std.proofs.lemmas.List.{take-append-le, take-take, length-take-le, drop_at, take_at}
 use Rattle.std.proofs.lemmas.List.{drop_all, take_all, length_push}

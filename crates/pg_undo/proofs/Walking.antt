@@ -1,15 +1,15 @@
 -- Walking a ring.
 use Rattle.std.proofs.Common.{◌≡◌, ℕ, zero, suc, ◌+◌, ◌<◌, ◌≤◌, Bool, true, false, ◌&&◌, List, Some}
-use Rattle.std.proofs.Common.{None, cond, ltb, length, get_or, refl, sym, ap, ◌∙◌, inl, inr, arith}
+use Rattle.std.proofs.Common.{None, cond, ltb, get_or, refl, sym, ap, ◌∙◌, inl, inr, arith}
 use Rattle.std.specs.Prelude.{slice_get}
 use Rattle.std.specs.List.{filter, find, range_with_len, Contains}
 use Rattle.std.proofs.lemmas.Bool.{cases_lt, and_from, and_left, and_right, lt-ltb, le-ltb}
 use Rattle.std.proofs.lemmas.List.{get_or_read}
 use Rattle.pg_undo.specs.Ring.{present}
-use Rattle.pg_undo.specs.Links.{slot, stands, Follows, AreLinked, AreLinks, is_left, history}
+use Rattle.pg_undo.specs.Links.{slot, Follows, AreLinks, is_left, history}
 use Rattle.pg_undo.proofs.Finding.{first_below, none_below, first_of_all}
 use Rattle.pg_undo.proofs.Linking.{slot-of, slot-start, stands-left, stands-start, stands-member}
-use Rattle.pg_undo.proofs.Linking.{next_place, links-linked, in_arrays, InArrays}
+use Rattle.pg_undo.proofs.Linking.{next_place, links-linked, in_arrays}
 use Rattle.pg_undo.proofs.Histories.{present-of, member-at}
 
 -- what follows a place is the first member from there on

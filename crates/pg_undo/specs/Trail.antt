@@ -1,5 +1,5 @@
 -- What a trail is seen as, what a change makes of it, and how it was before its last changes.
-use Rattle.std.specs.Prelude.{◌≡◌, ℕ, ◌+◌, ◌-◌, List, [], ◌∷◌, ◌++◌, length, get_or, set, take}
+use Rattle.std.specs.Prelude.{ℕ, ◌+◌, ◌-◌, List, [], ◌∷◌, ◌++◌, length, get_or, set, take}
 use Rattle.std.specs.Prelude.{drop}
 
 -- cells, with the changes that were made: which cell, and what it was; and how many more have room

@@ -1,9 +1,9 @@
 //! What comes of the runs of a row, in the words of its entries.
-use crate::entries::{cut, entry, is_of_a_file, push_shown};
+use crate::entries::{entry, is_of_a_file, push_shown};
 use crate::held::{Held, file, held_files};
 use crate::runs::push_run;
-use crate::texts::{Named, value};
 use pg_io::Files;
+use pg_plain::{Named, cut, written_out};
 use std::alloc::{AllocError, Global};
 use std::fmt::Write;
 
@@ -20,7 +20,7 @@ fn files_of(alloc: Global, texts: &[Named], row: &str, fails: &[u64]) -> Result<
     for line in row.lines().skip(1) {
         if let Some(rest) = line.strip_prefix("file ") {
             let (name, told) = cut(rest);
-            let text = value(alloc, texts, told)?;
+            let text = written_out(alloc, texts, told)?;
             files.push(file(alloc, name, text.as_str())?)?;
         }
     }
@@ -57,7 +57,7 @@ fn came_on(
     let mut text = String::new(alloc);
     for told in row.split("\nrun ").skip(1) {
         let words = told.lines().next().unwrap_or("");
-        let input = value(alloc, texts, entry(told, "input").unwrap_or(""))?;
+        let input = written_out(alloc, texts, entry(told, "input").unwrap_or(""))?;
         push_run(
             alloc,
             words,

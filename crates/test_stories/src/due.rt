@@ -1,6 +1,6 @@
 //! What is due from the runs of a row, in the words of its entries.
-use crate::entries::{cut, is_logged, is_of_a_file, of_file, push_shown};
-use crate::texts::{Named, value};
+use crate::entries::{is_logged, is_of_a_file, of_file, push_shown};
+use pg_plain::{Named, cut, written_out};
 use std::alloc::{AllocError, Global};
 use std::fmt::Write;
 
@@ -29,7 +29,7 @@ fn push_told(
     told: &str,
     text: &mut String,
 ) -> Result<(), AllocError> {
-    let value = value(alloc, texts, told)?;
+    let value = written_out(alloc, texts, told)?;
     text.push_str(word)?;
     text.push(' ')?;
     push_shown(text, value.as_bytes())?;

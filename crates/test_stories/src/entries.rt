@@ -1,11 +1,7 @@
 //! The entries of a row, a line each: a word, and what stands after it. The first line of a row is
 //! its name.
+use pg_plain::cut;
 use std::alloc::AllocError;
-
-/// The first word of a line, and what stands after the space after it.
-pub(crate) fn cut(line: &str) -> (&str, &str) {
-    line.split_once(' ').unwrap_or((line, ""))
-}
 
 /// What stands after the word in the first of the entries that begins with it.
 pub(crate) fn entry<'a>(entries: &'a str, word: &str) -> Option<&'a str> {

@@ -1,8 +1,7 @@
 //! Faults of form: of whole files, and of a line at the places where it may stand, alone and before
 //! another fault.
-use crate::entries::cut;
 use crate::runs::ran;
-use crate::texts::{Named, lines_of, value};
+use pg_plain::{Named, cut, lines_of, written_out};
 use std::alloc::{AllocError, Global};
 
 /// Noughts and crosses, with Breaker in the centre.
@@ -62,7 +61,7 @@ pub(crate) fn is_form_so(
 ) -> Result<bool, AllocError> {
     let (head, text) = told.split_once('=').unwrap_or((told, ""));
     let (fault, number) = cut(head);
-    let text = value(alloc, texts, text)?;
+    let text = written_out(alloc, texts, text)?;
     let text = text.as_str();
     let is_game = fault.starts_with('G') || fault == "none" && !text.starts_with("posgame-cert");
     let kind = if is_span {
@@ -154,7 +153,7 @@ pub(crate) fn is_fault_so(alloc: Global, texts: &[Named], told: &str) -> Result<
     } else {
         (Kind::Certificate, "other-certificate-lines")
     };
-    let line = value(alloc, texts, line)?;
+    let line = written_out(alloc, texts, line)?;
     let faulty = Faulty {
         kind,
         fault,

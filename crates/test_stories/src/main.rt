@@ -20,9 +20,9 @@ mod runs;
 mod sizes;
 mod system;
 mod tables;
-mod texts;
 mod values;
 
+use pg_plain::{folded, texts_of};
 use std::{env, io};
 
 /// The words by which Breaker is played on the console of the system.
@@ -43,7 +43,7 @@ fn script(rt: &HostRuntime, rows_alone: bool) -> io::Result<String> {
         system::carry_out(rt, PLAY)?;
     }
     let script = io::read_to_string(rt.alloc(), rt.reader())?;
-    let script = texts::folded(rt.alloc(), script.as_str())?;
+    let script = folded(rt.alloc(), script.as_str())?;
     if !rows_alone {
         system::carry_out_all(rt, script.as_str())?;
     }
@@ -53,7 +53,7 @@ fn script(rt: &HostRuntime, rows_alone: bool) -> io::Result<String> {
 /// Says whether the lines of tables are as they tell, and of each row whether its runs leave what
 /// is due.
 fn answer(rt: &HostRuntime, script: &str) -> io::Result<()> {
-    let texts = texts::texts_of(rt.alloc(), script)?;
+    let texts = texts_of(rt.alloc(), script)?;
     tables::answer(rt, &texts, script)?;
     for row in script.split("\nrow ").skip(1) {
         let answer = rows::answer(rt.alloc(), &texts, row)?;

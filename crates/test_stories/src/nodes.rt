@@ -1,8 +1,7 @@
 //! Faults of a node at the first, a middle and the last node of the first, a middle and the last
 //! claim, alone and before another.
-use crate::entries::cut;
 use crate::runs::ran;
-use crate::texts::{Named, lines_of};
+use pg_plain::{Named, cut, lines_of};
 use std::alloc::{AllocError, Global};
 
 /// How many claims a certificate has.

@@ -1,9 +1,9 @@
 //! Two positions on the same lines, of which the first rests on the second by `weaker`.
-use crate::entries::cut;
 use crate::held::{Held, holding};
 use crate::runs::logged;
 use crate::values::is_won;
 use pg_base::Side;
+use pg_plain::cut;
 use std::alloc::{AllocError, Global};
 
 /// A certificate with this claim, whose root stands after the nodes of a certificate of one claim

@@ -1,7 +1,6 @@
 //! Plays against every list of replies.
 use crate::came::{Fails, came};
-use crate::entries::cut;
-use crate::texts::Named;
+use pg_plain::{Named, cut};
 use std::alloc::{AllocError, Global};
 use std::fmt::Write;
 

@@ -3,7 +3,7 @@ use crate::came::{Fails, came};
 use crate::due::{Reach, WHOLE, due, is_so};
 use crate::entries::{entry, stray};
 use crate::replies::first_wrong_play;
-use crate::texts::Named;
+use pg_plain::Named;
 use std::alloc::{AllocError, Global};
 
 /// What comes of the row where these calls fail, unless it is as due.

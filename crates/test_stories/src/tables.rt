@@ -1,12 +1,11 @@
 //! The lines of tables, each of which stands for several runs.
-use crate::entries::cut;
 use crate::faults::{is_fault_so, is_form_so};
 use crate::nodes::is_node_so;
 use crate::pairs::is_pair_so;
 use crate::pieces::are_pieces_so;
 use crate::sizes::is_size_so;
-use crate::texts::Named;
 use crate::values::is_value_so;
+use pg_plain::{Named, cut};
 use std::alloc::{AllocError, Global};
 use std::io;
 

@@ -1,11 +1,11 @@
 //! Small games with their values: each is solved, what is stored is checked, and played to its end
 //! against replies drawn at random.
-use crate::entries::cut;
 use crate::held::{Held, holding};
 use crate::runs::logged;
 use pg_base::Side;
 use pg_files::read_game;
 use pg_game::Game;
+use pg_plain::cut;
 use std::alloc::{AllocError, Global};
 use std::fmt::Write;
 

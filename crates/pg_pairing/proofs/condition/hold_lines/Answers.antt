@@ -1,4 +1,4 @@
-use Rattle.std.proofs.Common.{◌≡◌, ◌<◌, ◌∙◌, ℕ, List, length, get_or, sym, ap, subst}
+use Rattle.std.proofs.Common.{◌≡◌, ◌<◌, ◌∙◌, ℕ, List, length, get_or, ap, subst}
 use Rattle.pg_pairing.proofs.Common.{FinSet, nat_cmp, points_of, lines_of, IsSafe, breaker_of}
 use Rattle.pg_pairing.proofs.PartnerSteps.{pairs-below, safe-more}
 use Rattle.pg_pairing.proofs.condition.hold_lines.Goals as goal

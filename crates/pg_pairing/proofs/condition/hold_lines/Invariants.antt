@@ -1,4 +1,4 @@
-use Rattle.std.proofs.Common.{◌≡◌, ◌<◌, ℕ, List, get_or}
+use Rattle.std.proofs.Common.{◌<◌, ℕ, List, get_or}
 use Rattle.pg_pairing.proofs.Common.{points_of, lines_of, IsSafe, breaker_of}
 use Rattle.pg_pairing.proofs.condition.hold_lines.Given as goal
 

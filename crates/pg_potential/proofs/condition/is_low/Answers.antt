@@ -1,4 +1,4 @@
-use Rattle.std.proofs.Common.{◌≡◌, ◌∙◌, ◌<◌, ◌≤◌, ◌+◌, ◌*◌, ◌^◌, ℕ, subst, subst₂, refl, arith}
+use Rattle.std.proofs.Common.{◌∙◌, ◌<◌, ◌≤◌, ◌+◌, ◌*◌, ◌^◌, ℕ, subst, subst₂, refl, arith}
 use Rattle.pg_potential.proofs.Common.{mul-le-mul_left, false≢true, total, limit, greatest_weight}
 use Rattle.std.proofs.lemmas.Nat.{mul-le}
 use Rattle.pg_potential.proofs.GreatestWeight.{greatest_weight-le}

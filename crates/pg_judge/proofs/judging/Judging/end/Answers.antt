@@ -1,4 +1,3 @@
-use Rattle.std.proofs.Common.{◌++◌}
 use Rattle.pg_cert_files.proofs.ShortTexts.{certificates_alike}
 use Rattle.pg_cert_files.proofs.Within.{is_past, is_within}
 use Rattle.pg_judge.proofs.ShortCerts.{judged_alike, judged_large}

@@ -1,6 +1,6 @@
-use Rattle.std.proofs.Common.{◌≡◌, ℕ, ◌+◌, ◌<◌, List, reverse, length, arith, rules, ◌∙◌}
+use Rattle.std.proofs.Common.{◌≡◌, reverse, length, arith, rules, ◌∙◌}
 use Rattle.std.specs.Vec.{vec_len}
-use Rattle.pg_undo.proofs.Linking.{InArrays, in_arrays}
+use Rattle.pg_undo.proofs.Linking.{in_arrays}
 use Rattle.pg_undo.proofs.Walking.{first-is}
 use Rattle.pg_undo.proofs.ring.Ring.first.Goals as goal
 

@@ -1,6 +1,5 @@
-use Rattle.std.proofs.Common.{◌≡◌, ℕ, ◌+◌, ◌≤◌, List, [], ◌∷◌, ◌++◌, length, reverse, arith, rules}
-use Rattle.std.proofs.Common.{sym, ap, ◌∙◌, subst}
-use Rattle.std.specs.Vec.{vec_capacity}
+use Rattle.std.proofs.Common.{◌≡◌, ◌+◌, [], ◌∷◌, ◌++◌, reverse, arith}
+use Rattle.std.proofs.Common.{ap, ◌∙◌, subst}
 use Rattle.pg_undo.specs.Links.{history}
 use Rattle.pg_undo.proofs.Starting.{AreFilled, filled-none, filled-more, links-start}
 use Rattle.pg_undo.proofs.Histories.{history-none}

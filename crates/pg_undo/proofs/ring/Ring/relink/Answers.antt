@@ -1,10 +1,10 @@
-use Rattle.std.proofs.Common.{◌≡◌, ℕ, ◌+◌, ◌<◌, ◌≤◌, List, ◌∷◌, ◌++◌, [], reverse, length, arith}
-use Rattle.std.proofs.Common.{rules, sym, ap, ◌∙◌, subst}
+use Rattle.std.proofs.Common.{◌≡◌, ◌+◌, ◌<◌, ◌≤◌, ◌∷◌, ◌++◌, [], reverse, length, arith}
+use Rattle.std.proofs.Common.{rules, sym, ap, ◌∙◌}
 use Rattle.std.proofs.lemmas.List.{reverse-append, length-reverse}
 use Rattle.std.specs.Vec.{vec_len, vec_capacity}
 use Rattle.pg_undo.specs.Ring.{present}
 use Rattle.pg_undo.specs.Links.{history, AreLinks}
-use Rattle.pg_undo.proofs.Linking.{Relinking, relinking, InArrays, in_arrays, links-out}
+use Rattle.pg_undo.proofs.Linking.{relinking, in_arrays, links-out}
 use Rattle.pg_undo.proofs.Histories.{length-history, history-push}
 use Rattle.pg_undo.proofs.ring.Ring.relink.Goals as goal
 

@@ -1,11 +1,11 @@
-use Rattle.std.proofs.Common.{◌≡◌, ℕ, ◌+◌, ◌<◌, ◌≤◌, true, List, ◌∷◌, ◌++◌, [], reverse, length}
-use Rattle.std.proofs.Common.{get_or, set, arith, rules, sym, ap, ◌∙◌, subst, refl}
+use Rattle.std.proofs.Common.{◌≡◌, ◌+◌, ◌<◌, ◌≤◌, ◌∷◌, ◌++◌, [], reverse, length}
+use Rattle.std.proofs.Common.{arith, rules, ap, ◌∙◌}
 use Rattle.std.proofs.lemmas.List.{reverse-append, length-reverse}
 use Rattle.std.specs.Vec.{vec_len, vec_capacity}
 use Rattle.pg_undo.specs.Ring.{present, without}
-use Rattle.pg_undo.specs.Links.{history, AreLinks}
-use Rattle.pg_undo.proofs.Linking.{Unlinking, unlinking, InArrays, in_arrays}
-use Rattle.pg_undo.proofs.Histories.{member-at, history-with, some-room}
+use Rattle.pg_undo.specs.Links.{history}
+use Rattle.pg_undo.proofs.Linking.{unlinking, in_arrays}
+use Rattle.pg_undo.proofs.Histories.{member-at, history-with}
 use Rattle.pg_undo.proofs.ring.Ring.unlink.Goals as goal
 
 pub index-before-requires : goal.index-before-requires

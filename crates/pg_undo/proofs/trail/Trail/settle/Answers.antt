@@ -1,5 +1,5 @@
 use Rattle.std.proofs.Common.{◌≡◌, ◌+◌, ◌-◌, length, arith, ap, ◌∙◌}
-use Rattle.pg_undo.specs.Trail.{Cells, settled}
+use Rattle.pg_undo.specs.Trail.{settled}
 use Rattle.pg_undo.proofs.trail.Trail.settle.Goals as goal
 
 pub returns : goal.returns

@@ -1,4 +1,4 @@
-use Rattle.std.proofs.Common.{◌≡◌, ◌-◌, length, ap, ◌∙◌}
+use Rattle.std.proofs.Common.{◌-◌, length, ap, ◌∙◌}
 use Rattle.pg_undo.specs.Trail.{back_to}
 use Rattle.pg_undo.proofs.Undoing.{taken-is}
 use Rattle.pg_undo.proofs.trail.Trail.take_back.Goals as goal

@@ -1,5 +1,4 @@
-use Rattle.std.proofs.Common.{◌≡◌, ℕ, ◌+◌, ◌-◌, ◌<◌, ◌≤◌, length, arith, sym, ap, ◌∙◌}
-use Rattle.pg_undo.specs.Trail.{back_to}
+use Rattle.std.proofs.Common.{◌≡◌, ◌-◌, ◌<◌, length, arith, sym, ap, ◌∙◌}
 use Rattle.pg_undo.proofs.Undoing.{back_to-level, back_to-more, length-back_to}
 use Rattle.pg_undo.proofs.trail.Trail.undo_to.Goals as goal
 
