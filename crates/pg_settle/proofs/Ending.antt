@@ -1,0 +1,125 @@
+-- How a run ends.
+use Rattle.std.proofs.Common.{◌≡◌, ◌∙◌, ℕ, Bool, List, [], ◌∷◌, Option, Some, None, Ok, Err, refl}
+use Rattle.std.proofs.Common.{sym, ap, subst, inl, inr}
+use Rattle.std.specs.Prelude.{IfSome}
+use Rattle.pg_settle.proofs.Common.{Bytes, Changes, ConsoleTold, Declines, Done, End, Ends, Entry}
+use Rattle.pg_settle.proofs.Common.{FilesTold, Finished, Follows, Game, Grows, Grows-then, Halt}
+use Rattle.pg_settle.proofs.Common.{Holding, IsNothing, Refusal, Refused, Said, Stopped, ending}
+use Rattle.pg_settle.proofs.Common.{game_held, nothing, refusal_status, refusal_text, stop_end}
+use Rattle.pg_settle.proofs.Common.{talk}
+use Rattle.pg_io.specs.declared.stop.Stop.{Stop}
+use Rattle.pg_io.specs.declared.stop.Stop.TheVariants.{Memory, Read, Write}
+use Rattle.pg_messages.specs.declared.refusal.Refusal.TheVariants as refusals
+use Rattle.pg_talk.specs.Halts.{stop_status}
+use Rattle.pg_talk.specs.Hearing.{Hearing}
+use Rattle.pg_talk.proofs.Talking.{Hearing-said, Hearing-then}
+use Rattle.pg_settle.specs.Runs.{Allows, Carries, Ran, RanOn, Settles, as_solve}
+use Rattle.pg_settle.specs.declared.budget.Budget.{Budget}
+use Rattle.pg_settle.specs.declared.finding.Outcome.{Outcome}
+
+refusal_finishes : (refusal : Refusal)
+    → ending (refusal_status refusal) ≡ Finished (refusal_status refusal)
+refusal_finishes refusals.NoMeaning = refl
+refusal_finishes (refusals.NoClaim side) = refl
+refusal_finishes (refusals.Game number line) = refl
+refusal_finishes (refusals.Certificate number line) = refl
+refusal_finishes (refusals.Rejected claim node why) = refl
+refusal_finishes (refusals.RejectedSpan claim why) = refl
+refusal_finishes (refusals.RejectedVectors claim node why) = refl
+refusal_finishes (refusals.RejectedImage claim node why) = refl
+refusal_finishes (refusals.Record number line) = refl
+
+stop_ends : (stop : Stop) → ending (stop_status stop) ≡ stop_end stop
+stop_ends Read = refl
+stop_ends Write = refl
+stop_ends Memory = refl
+
+module _ (Brings : Game → Budget → Outcome → Type 0) (images : Bool) (game name : Bytes)
+    (budget : Budget) (files files' : FilesTold) where
+  pub ran_done : (before after : ConsoleTold) (status : ℕ)
+      → ending status ≡ Finished status
+      → Carries Brings images game name budget files files' before after (Ok status)
+      → Ran Brings images game name budget files files' before after status
+  ran_done before after status own carries = go files.held carries where
+    go : (h : Option Holding)
+        → IfSome h (λ held. Follows (λ refusal. game_held (held game) ≡ Err (Refused refusal))
+        (Settles Brings images (game_held (held game)) name budget) held files' before after
+        (Ok status))
+        → IfSome h
+        (λ held. RanOn Brings images held game name budget files' before after (ending status))
+    go None on = tt
+    go (Some held) (done, settles, changes) =
+        subst (λ (end : End). RanOn Brings images held game name budget files' before after end)
+        (sym own) (done, inr settles, changes)
+
+  module _ (held : Holding) (before mid after : ConsoleTold) where
+    declined : (stop : Stop) (done : Done)
+        → IsNothing done
+        → Declines held (as_solve game name) done (stop_end stop)
+    declined Read done none = none
+    declined Write done none = none
+    declined Memory done none = none
+
+    -- what stands against the run is said, or that fails; or it was stopped
+    ended : (halt : Halt) (status : ℕ)
+        → Follows (λ refusal. game_held (held game) ≡ Err (Refused refusal))
+        (Settles Brings images (game_held (held game)) name budget) held files' before mid
+        (Err halt)
+        → Ends halt mid after status
+        → RanOn Brings images held game name budget files' before after (ending status)
+    ended (Refused refusal) status (refuses, changes) (inl (is, says, left, calm)) =
+        let heard : Hearing before.left (Said (refusal_text refusal) ∷ []) after.left = subst
+        (λ (l : Option Bytes). Hearing before.left (Said (refusal_text refusal) ∷ []) l) (sym left)
+        (Hearing-then before.left mid.left mid.left [] (Said (refusal_text refusal) ∷ [])
+        changes.talked.heard (Hearing-said mid.left (refusal_text refusal))) in
+        let grown : Grows before.log after.log (Said (refusal_text refusal) ∷ []) =
+        Grows-then before.log mid.log after.log []
+        (Said (refusal_text refusal) ∷ []) changes.talked.logged says in
+        let own : ending status ≡ Finished (refusal_status refusal) =
+        ap ending is ∙ refusal_finishes refusal in
+        subst (λ (end : End). RanOn Brings images held game name budget files' before after end)
+        (sym own) (
+          talk (Said (refusal_text refusal) ∷ []),
+          inl (refusal, refuses, refl, refl, refl),
+          record { talked = record { logged = grown; heard = heard }; names = changes.names },
+        )
+    ended (Refused refusal) status (refuses, changes) (inr (is, quiet, left, rose)) =
+        subst (λ (end : End). RanOn Brings images held game name budget files' before after end)
+        (sym (ap ending is)) (
+          nothing,
+          inl (refl, refl),
+          record {
+            talked = record {
+              logged = subst (λ (l : Option (List Entry)). Grows before.log l [])
+                  (sym quiet) changes.talked.logged;
+              heard = (mid.left, changes.talked.heard);
+            };
+            names = changes.names;
+          },
+        )
+    ended (Stopped stop) status (done, how, changes) (is, same) =
+        let own : ending status ≡ stop_end stop = ap ending is ∙ stop_ends stop in
+        subst (λ (end : End). RanOn Brings images held game name budget files' before after end)
+        (sym own) (
+          done,
+          elim how as (λ _. Allows Brings images held game name budget done (stop_end stop)) [
+            | inl none ↦ inl (declined stop done none)
+            | inr settles ↦ inr settles
+          ],
+          subst (λ (c : ConsoleTold). Changes held files' before c done (stop_end stop))
+              (sym same) changes,
+        )
+
+  pub ran_early : (before mid after : ConsoleTold) (halt : Halt) (status : ℕ)
+      → Carries Brings images game name budget files files' before mid (Err halt)
+      → Ends halt mid after status
+      → Ran Brings images game name budget files files' before after status
+  ran_early before mid after halt status carries ends = go files.held carries where
+    go : (h : Option Holding)
+        → IfSome h (λ held. Follows (λ refusal. game_held (held game) ≡ Err (Refused refusal))
+        (Settles Brings images (game_held (held game)) name budget) held files' before mid
+        (Err halt))
+        → IfSome h
+        (λ held. RanOn Brings images held game name budget files' before after (ending status))
+    go None on = tt
+    go (Some held) on = ended held before mid after halt status on ends

@@ -1,0 +1,6 @@
+mod Common
+pub mod Headings
+pub mod Positions
+pub mod Settles
+pub mod Ending
+pub mod Announced

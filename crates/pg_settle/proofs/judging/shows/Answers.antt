@@ -1,0 +1,16 @@
+use Rattle.std.proofs.Common.{Err, ap, ◌∙◌}
+use Rattle.pg_check.specs.declared.checked.CheckFault.{CheckFault}
+use Rattle.pg_settle.proofs.Common.{false≢true}
+use Rattle.pg_settle.proofs.judging.shows.Goals as goal
+
+pub returns-in-Err-Reject : goal.returns-in-Err-Reject
+returns-in-Err-Reject c =
+    let claim = c.in-Err-Reject.field-0-0 in
+    let node = c.in-Err-Reject.field-0-1 in
+    let why = c.in-Err-Reject.field-0-2 in
+    let fault = c.check.ensures.reject claim node why
+    (c.in-Err-Reject.is ∙ ap (λ (f : CheckFault). Err f) c.in-Err-Reject.field-0-is) in (
+      λ e. absurd (false≢true e),
+      λ shows. absurd (c.faults_are_told.ensures.none c.args.game.now c.args.certificate.now
+          shows.valid claim node why fault),
+    )

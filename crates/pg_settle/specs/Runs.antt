@@ -1,0 +1,69 @@
+-- WHAT A RUN IS.
+use Rattle.std.specs.Prelude.{◌≡◌, ◌⊎◌, ℕ, Bool, false, List, ◌++◌, Option, Some, Result, Ok, Err}
+use Rattle.std.specs.Prelude.{IfSome}
+use Rattle.pg_settle.specs.Prelude.{Bytes, Changes, Command, ConsoleTold, Contains, Declines, Done}
+use Rattle.pg_settle.specs.Prelude.{End, Entry, FilesTold, Game, Halt, Holding, IsSaidBy, Kind}
+use Rattle.pg_settle.specs.Prelude.{Refused, Runs, Said, SaysGame, Score, Solve, ending, game_held}
+use Rattle.pg_settle.specs.Prelude.{result_text, start, value}
+use Rattle.pg_files.specs.GameFile.{Entry as GameEntry}
+use Rattle.pg_settle.specs.Settling.{SettlesGame}
+use Rattle.pg_settle.specs.declared.budget.Budget.{Budget}
+use Rattle.pg_settle.specs.declared.finding.Outcome.{Outcome}
+
+-- the command `solve` with these names: a run that settles a game refuses what it refuses, is
+-- silent where it is silent, and ends with one of its statuses
+abbrev pub as_solve : Bytes → Bytes → Option Command
+as_solve game name = Some (Solve game name (Some 1) false)
+
+module _ (Brings : Game → Budget → Outcome → Type 0) (images : Bool) where
+  -- what settling does, by the game that was read
+  abbrev pub Settles : Result GameEntry Halt → Bytes → Budget → Done → End → Type 0
+  Settles (Err halt) name budget done end = ⊥
+  Settles (Ok e) name budget done end =
+      (g : Game) × IsSaidBy e g × SettlesGame Brings images g name budget done end
+
+  -- the game is settled; or what stands against it was found, and nothing was said yet; or the run
+  -- was stopped
+  abbrev pub Carries : Bytes → Bytes → Budget → FilesTold → FilesTold → ConsoleTold → ConsoleTold
+      → Result ℕ Halt → Type 0
+  Carries game name budget files files' before after result =
+      Runs (λ held refusal. game_held (held game) ≡ Err (Refused refusal))
+      (λ held. Settles (game_held (held game)) name budget) files files' before after result
+
+  -- the game is settled, or what stands against that is said with its status
+  abbrev pub Allows : Holding → Bytes → Bytes → Budget → Done → End → Type 0
+  Allows held game name budget done end =
+      Declines held (as_solve game name) done end
+      ⊎ Settles (game_held (held game)) name budget done end
+
+  -- a run on names that hold these bytes
+  abbrev pub RanOn : Holding → Bytes → Bytes → Budget → FilesTold → ConsoleTold → ConsoleTold
+      → End → Type 0
+  RanOn held game name budget files before after end =
+      (done : Done) × Allows held game name budget done end
+      × Changes held files before after done end
+
+  -- a run that ends with the status, where it is told what the names hold
+  abbrev pub Ran : Bytes → Bytes → Budget → FilesTold → FilesTold → ConsoleTold → ConsoleTold
+      → ℕ → Type 0
+  Ran game name budget files files' before after status =
+      IfSome files.held
+      (λ held. RanOn held game name budget files' before after (ending status))
+
+-- ---- what is announced
+
+-- each score that is said is the value of the game that these bytes say
+abbrev pub SaysValue : Option Bytes → List Entry → Type 0
+SaysValue bytes entries = (kind : Kind) (score : Score)
+    → Contains entries (Said (result_text kind score))
+    → (g : Game) × SaysGame bytes g
+    × (result_text kind score ≡ result_text g.kind (value g (start g)))
+
+-- of all that a run has said, where it is told what the names hold and what was said
+abbrev pub AnnouncesValue : Option Holding → Bytes → Option (List Entry) → Option (List Entry)
+    → Type 0
+AnnouncesValue told game log after =
+    (held : Holding) (earlier entries : List Entry) → told ≡ Some held
+    → log ≡ Some earlier
+    → after ≡ Some (earlier ++ entries)
+    → SaysValue (held game) entries
