@@ -42,7 +42,8 @@ def random_game(draws: kit.Draws) -> str:
 def record(text: str, draws: kit.Draws) -> str:
     """Draws up to six moves to different free points of a game.
 
-    >>> print(record(kit.game("maker-breaker", "points 3", "line 0 1", "x 2"), kit.Draws(1)), end="")
+    >>> text = kit.game("maker-breaker", "points 3", "line 0 1", "x 2")
+    >>> print(record(text, kit.Draws(1)), end="")
     posgame-record 1
     move 0
     move 1
