@@ -11,7 +11,8 @@ reading a game takes is measured by a check of an empty certificate.
 classes: large switching games are solved. The instructions are those of `classify`, and of the
 whole run. The certificate that is stored must be accepted.
 
-searches: five boards are solved. The functions that take most of a count above its limit are shown.
+searches: seven boards are solved. The functions that take most of a count above its limit are
+shown.
 
 families: connectivity games and games on vectors are solved, what is stored is checked, and the
 side that wins is played against replies that go round the points. What reading takes is subtracted.
@@ -74,7 +75,7 @@ SWITCHING: list[tuple[str, kit.Graph, kit.Edge]] = [
 def classes(program: str, only: str) -> int:
     """Measures classing, in which `classify` is counted with all that it calls."""
     table = kit.Table("board", "edges", "class",
-                      kit.Column("`classify`, instructions", ",.0f", 1e8), "whole run",
+                      kit.Column("`classify`, instructions", ",.0f", 2e7), "whole run",
                       kit.Column("s", ".3f"), "KB")
     for name, graph, terminals in kit.named(only, SWITCHING):
         with kit.files(game=kit.switching(graph, terminals)) as folder:
@@ -94,15 +95,19 @@ def classes(program: str, only: str) -> int:
 # the limit of million instructions.
 SEARCHES = [
     ("Maker-Maker, 4 by 4, 100/111", "maker-maker", 16, kit.placements(4, 4, "100/111"),
-     "result x", 250),
+     "result x", 115),
     ("Maker-Breaker, 5 by 5, 1111", "maker-breaker", 25, kit.placements(5, 5, "1111"),
-     "unknown after 3999 positions", 300),
+     "unknown after 3999 positions", 130),
     ("Maker-Breaker, 28 scattered lines of 4", "maker-breaker", 24, kit.scatter(13, 24, 28, 4),
-     "unknown after 4166 positions", 760),
+     "unknown after 4166 positions", 220),
     ("Maker-Breaker, 16 by 16, five in a row", "maker-breaker", 256, sorted(kit.in_row(16, 16, 5)),
-     "unknown after 390 positions", 520),
+     "unknown after 390 positions", 240),
+    ("Maker-Breaker, 100 scattered lines of 6", "maker-breaker", 40, kit.scatter(20, 40, 100, 6),
+     "unknown after 2499 positions", 170),
+    ("Maker-Maker, 24 scattered lines of 4", "maker-maker", 16, kit.scatter(7, 16, 24, 4),
+     "result draw", 330),
     ("Avoider-Enforcer, 3,000 scattered lines of 9", "avoider-enforcer", 100,
-     kit.scatter(33, 100, 3000, 9), "unknown after 999 positions", 6300),
+     kit.scatter(33, 100, 3000, 9), "unknown after 999 positions", 1600),
 ]
 
 
@@ -110,7 +115,7 @@ def searches(program: str, only: str) -> int:
     """Measures searches."""
     table = kit.Table("board", "answer", kit.Column("million instructions", ",.1f"), "limit",
                       kit.Column("to read", ".1f"), kit.Column("s", ".3f"),
-                      kit.Column("KB", limit=150_000))
+                      kit.Column("KB", limit=30_000))
     for name, kind, points, lines, answer, limit in kit.named(only, SEARCHES):
         text = kit.game(kind, f"points {points}", *kit.line_rows(lines))
         with kit.files(game=text) as folder:
