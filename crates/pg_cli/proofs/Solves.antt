@@ -188,7 +188,7 @@ few_left g positions most old new bound left untouched empty =
           let e : length new.positions ≡ 0 = ap length none in
           omega (arith, e)
       | inr lines ↦
-          let few = (left lines).count in
+          let few = (left lines).listed.count in
           let small = within (length (free_points g (start g))) positions in
           omega (arith, few, small, bound)
     ]
