@@ -2,13 +2,13 @@
 use Rattle.std.proofs.Common.{◌≡◌, ◌≢◌, ℕ, ◌+◌, ◌-◌, ◌*◌, ◌<◌, ◌≤◌, Bool, true, false, not, ◌&&◌}
 use Rattle.std.proofs.Common.{◌==◌}
 use Rattle.std.proofs.Common.{◌⊎◌, List, [], ◌∷◌, length, refl, sym, ap, ◌∙◌, subst, inl, inr}
-use Rattle.std.proofs.Common.{arith, cond, get_or, if◌then◌else◌, ltb, ◌^◌}
-use Rattle.pg_leaf.proofs.Common.{cases_Bool, false≢true, cond-true, cond-false, and_from}
-use Rattle.pg_leaf.proofs.Common.{false_from_ne_true, Contains, count_by, list_any}
+use Rattle.std.proofs.Common.{arith, cond, if◌then◌else◌, ltb, ◌^◌}
+use Rattle.pg_leaf.proofs.Common.{cases_Bool, false≢true, cond-true, and_from}
+use Rattle.pg_leaf.proofs.Common.{false_from_ne_true, Contains, count_by}
 use Rattle.pg_leaf.proofs.Common.{range_with_len, MakerBreaker, MakerMaker, AvoiderEnforcer}
 use Rattle.pg_leaf.proofs.Common.{Switching, Score, Side, Game, Position, View, has_filled}
 use Rattle.pg_leaf.proofs.Common.{short_joins, after, is_free, points_of, is_touched, lines_of}
-use Rattle.pg_leaf.proofs.Common.{free_points, point_count, IsPosition, may_attack, defender}
+use Rattle.pg_leaf.proofs.Common.{free_points, IsPosition, may_attack, defender}
 use Rattle.pg_leaf.proofs.Common.{defends, attack_wins, pairs_exist, breaker_of, live_lines}
 use Rattle.pg_leaf.proofs.Common.{live_with, is_live_with, line_at, member-from_any, Contains-head}
 use Rattle.pg_leaf.proofs.Common.{Contains-tail, same_some}
@@ -17,16 +17,14 @@ use Rattle.std.specs.FinSet.{FinSet, contains, insert}
 use Rattle.std.specs.List.{list_all, sum_by}
 use Rattle.std.specs.Ordering.{nat_cmp}
 use Rattle.std.proofs.lemmas.Bool.{le-ltb, lt-ltb, or_parts, and_parts, not-true, not_from_false}
-use Rattle.std.proofs.lemmas.Bool.{eqb-true, eq-eqb, cases_lt}
+use Rattle.std.proofs.lemmas.Bool.{eqb-true, eq-eqb}
 use Rattle.std.proofs.lemmas.List.Sums.{length-filter, sum_by-cons}
 use Rattle.pg_base.specs.declared.kind.Kind.{Kind}
 use Rattle.pg_base.specs.declared.side.Side.TheVariants.{X, Y}
-use Rattle.pg_base.specs.Points.{ShareNone}
 use Rattle.pg_base.specs.Side.{other, is_same_side}
 use Rattle.pg_board.specs.Board.{degree}
 use Rattle.pg_board.proofs.Digits.{count-all}
-use Rattle.pg_board.proofs.Judging.{degree-of}
-use Rattle.pg_game.specs.Avoider.{avoider_holds, avoider_total, x_takes_last}
+use Rattle.pg_game.specs.Avoider.{avoider_holds, x_takes_last}
 use Rattle.pg_game.specs.Game.{all_touched, can_join, is_full, is_empty, is_over, is_over_by}
 use Rattle.pg_game.specs.Potential.{IsBaseOf, full_weight, greatest_length, is_on, line_weight}
 use Rattle.pg_game.specs.Potential.{point_weight, potential_holds, times_counted, total_weight}
@@ -37,11 +35,10 @@ use Rattle.pg_game.proofs.Members.{false-at, list_any-none, list_any-one}
 use Rattle.pg_game.proofs.Moves.{IsPosition-after, other_other, own-point, points-from}
 use Rattle.pg_game.proofs.Moves.{points-stay, points_of-mover, points_of-waiter, turn-alternates}
 use Rattle.pg_game.proofs.ThreatLaws.{filled-waits, near-filled}
-use Rattle.pg_game.proofs.WeightBounds.{IsBaseOf-bias, IsBaseOf-two, few_points-lines}
+use Rattle.pg_game.proofs.WeightBounds.{IsBaseOf-bias, IsBaseOf-two}
 use Rattle.pg_game.proofs.WeightBounds.{total-few}
 use Rattle.pg_threat.proofs.Deciding.{attack_wins-far}
 use Rattle.pg_threat.proofs.LineCounts.{none-lacking, one-lacked, some-counted}
-use Rattle.pg_threat.specs.Lacking.{is_lacking}
 use Rattle.pg_game.specs.Threat.{is_race}
 use Rattle.pg_leaf.specs.Ahead.{base_for, is_avoiding, IsAhead, IsMoveOf, IsWeighed}
 use Rattle.pg_leaf.specs.declared.ahead.Ahead.{Ahead}

@@ -1,15 +1,15 @@
 -- A claim's nodes without those that its root doesn't reach: what is marked, and what is kept.
-use Rattle.std.proofs.Common.{◌≡◌, ℕ, suc, ◌+◌, ◌<◌, ◌≤◌, Bool, true, false, Some, List, [], ◌∷◌}
+use Rattle.std.proofs.Common.{◌≡◌, ℕ, ◌+◌, ◌<◌, ◌≤◌, Bool, true, false, Some, List, [], ◌∷◌}
 use Rattle.std.proofs.Common.{◌++◌, map, length, get_or, take, refl, sym, ap, ◌∙◌, subst, inl, inr}
-use Rattle.std.proofs.Common.{◌⊎◌, arith, slice_get, slice_set, length-append}
-use Rattle.pg_leaf.proofs.Common.{replicate, length-set, length-replicate, cases_eq, cases_Bool}
-use Rattle.pg_leaf.proofs.Common.{false≢true, take_more, get_or-replicate, All-contains}
+use Rattle.std.proofs.Common.{◌⊎◌, arith, slice_get, length-append}
+use Rattle.pg_leaf.proofs.Common.{cases_eq, cases_Bool}
+use Rattle.pg_leaf.proofs.Common.{false≢true, take_more, All-contains}
 use Rattle.pg_leaf.proofs.Common.{slice_get_within, slice_get-get_or, get_or_from_slice_get, Goal}
 use Rattle.pg_leaf.proofs.Common.{Side, Game, Position, is_free, after, point_count, position_of}
 use Rattle.pg_leaf.proofs.Common.{IsNodeOf, NamesEarlier, Body, Over, Move, Pairs, Potential, Trees}
 use Rattle.pg_leaf.proofs.Common.{Cuts, Threat, Weaker, Node, Reply, IsMarked, at_contains}
-use Rattle.pg_leaf.proofs.Common.{contains_at, contains_push, contains_old, at_new, at_old, at_push}
-use Rattle.pg_leaf.proofs.Common.{at_set_other, at_set_same, map-same_at, one_at, some≢none}
+use Rattle.pg_leaf.proofs.Common.{contains_at, at_new, at_old, at_push}
+use Rattle.pg_leaf.proofs.Common.{map-same_at, one_at}
 use Rattle.pg_text.specs.Text.{ascend_from}
 use Rattle.pg_cert.specs.declared.node.Body.TheVariants.{All as AllReplies}
 use Rattle.pg_leaf.specs.Sound.{BodyHolds}

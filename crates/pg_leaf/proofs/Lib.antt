@@ -4,5 +4,6 @@ pub mod ShortCounts
 pub mod Foreseeing
 mod LiveWalk
 mod Taking
+mod SmallSetLaws
 pub mod Nodes
 pub mod KeptNodes

@@ -1,7 +1,7 @@
 -- What a board tells of the positions after a move.
 use Rattle.std.specs.Prelude.{◌≡◌, ◌≢◌, ℕ, ◌+◌, ◌<◌, Bool, true, false, Some, None}
-use Rattle.pg_leaf.specs.Prelude.{AvoiderEnforcer, Body, Game, IsPosition, MakerBreaker, MakerMaker}
-use Rattle.pg_leaf.specs.Prelude.{Position, Score, Side, Switching, View, after, breaker_of}
+use Rattle.pg_leaf.specs.Prelude.{AvoiderEnforcer, Game, IsPosition, MakerBreaker, MakerMaker}
+use Rattle.pg_leaf.specs.Prelude.{Position, Score, Switching, View, after, breaker_of}
 use Rattle.pg_leaf.specs.Prelude.{decided, defender, is_free, is_over, point_count, points_of}
 use Rattle.pg_base.specs.declared.kind.Kind.{Kind}
 use Rattle.pg_game.specs.Potential.{full_weight, total_weight}

@@ -1,4 +1,6 @@
 pub mod Prelude
+pub mod SmallSets
+pub mod Keys
 pub mod At
 pub mod Ahead
 pub mod Leaf

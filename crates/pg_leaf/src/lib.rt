@@ -5,11 +5,16 @@
 
 mod ahead;
 mod criteria;
+mod kept;
+mod key;
 mod marks;
 mod order;
 mod pruning;
+mod small_set;
 
 pub use ahead::{Ahead, Told};
 pub use criteria::leaf;
+pub use kept::KeptNode;
+pub use key::Key;
 pub use order::order_of;
 pub use pruning::prune;

@@ -4,8 +4,9 @@ ghost use Rattle.pg_leaf.specs.Prelude.{All, NamesEarlier, Node, IsMarked, MAX_C
 ghost use Rattle.std.proofs.Math.ListN.{replicate};
 ghost use Rattle.pg_leaf.specs.Pruned.{AreMarked, AreNamed, MarksMore, Names};
 
+use crate::kept::KeptNode;
 use pg_base::Memory;
-use pg_cert::{Body, Node, Reply};
+use pg_cert::{Body, Reply};
 use std::alloc::Global;
 
 /// Marks the number.
@@ -48,19 +49,19 @@ fn mark_children(body: &Body, marks: &mut [bool])
 }
 
 /// Marks the children of the node of the number, where it is marked.
-fn mark_from(node: &Node, k: usize, marks: &mut [bool])
+fn mark_from(node: &KeptNode, k: usize, marks: &mut [bool])
     requires within { k < length marks.old }
     requires earlier { NamesEarlier k node.now.body }
     ensures marked { IsMarked marks.old k → MarksMore (Names node.now.body) marks.old marks.new }
     ensures left { slice_get marks.old k ≡ Some false → marks.new ≡ marks.old }
 {
     if marks[k] {
-        mark_children(&node.body, marks);
+        mark_children(node.body(), marks);
     }
 }
 
 /// Marks what the marked nodes name, from the last on.
-fn mark_all(nodes: &[Node], marks: &mut [bool])
+fn mark_all(nodes: &[KeptNode], marks: &mut [bool])
     requires earlier { (k : ℕ) → (n : Node) → slice_get nodes.now k ≡ Some n
         → NamesEarlier k n.body }
     requires marks { AreMarked nodes.now (length nodes.now) marks.old }
@@ -73,7 +74,7 @@ fn mark_all(nodes: &[Node], marks: &mut [bool])
 }
 
 /// Marks the last number, and what the marked nodes name.
-pub(crate) fn mark_needed(nodes: &[Node], marks: &mut [bool])
+pub(crate) fn mark_needed(nodes: &[KeptNode], marks: &mut [bool])
     requires some { 1 ≤ length nodes.now }
     requires few { length nodes.now ≤ MAX_CLAIM_NODES }
     requires earlier { (k : ℕ) → (n : Node) → slice_get nodes.now k ≡ Some n

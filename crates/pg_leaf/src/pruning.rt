@@ -4,6 +4,7 @@ ghost use Rattle.std.specs.Prelude.{slice_get};
 ghost use Rattle.pg_leaf.specs.Prelude.{All, NamesEarlier, Node, MAX_CLAIM_NODES};
 ghost use Rattle.pg_leaf.specs.Pruned.{AreMarked, AreRenumbered, IsKept, IsPruned, Renumbers};
 
+use crate::kept::KeptNode;
 use crate::marks::{mark_needed, unmarked};
 use pg_base::{Memory, Pairs, Points};
 use pg_cert::{Body, EdgeSet, Node, Replies, Reply};
@@ -70,7 +71,7 @@ fn renumbered(alloc: Global, body: &Body, numbers: &[u32]) -> Result<Body, Memor
 /// Keeps the node's new number, and the node where it is marked.
 fn keep_node(
     alloc: Global,
-    node: &Node,
+    node: &KeptNode,
     marked: bool,
     numbers: &mut Vec<u32>,
     out: &mut Vec<Node>,
@@ -84,19 +85,13 @@ fn keep_node(
     if !marked {
         return Ok(());
     }
-    let body = renumbered(alloc, &node.body, numbers.as_slice())?;
-    out.push(Node {
-        x: node.x,
-        y: node.y,
-        turn: node.turn,
-        left: node.left,
-        body,
-    })?;
+    let body = renumbered(alloc, node.body(), numbers.as_slice())?;
+    out.push(node.with_body(body))?;
     Ok(())
 }
 
 /// The marked nodes in their order, with new numbers.
-fn marked_nodes(alloc: Global, nodes: &[Node], marks: &[bool]) -> Result<Vec<Node>, Memory>
+fn marked_nodes(alloc: Global, nodes: &[KeptNode], marks: &[bool]) -> Result<Vec<Node>, Memory>
     requires few { length nodes.now ≤ MAX_CLAIM_NODES }
     requires earlier { (k : ℕ) → (n : Node) → slice_get nodes.now k ≡ Some n
         → NamesEarlier k n.body }
@@ -117,7 +112,7 @@ fn marked_nodes(alloc: Global, nodes: &[Node], marks: &[bool]) -> Result<Vec<Nod
 /// # Errors
 ///
 /// `Memory` where no memory is found.
-pub fn prune(alloc: Global, nodes: &[Node]) -> Result<Vec<Node>, Memory>
+pub fn prune(alloc: Global, nodes: &[KeptNode]) -> Result<Vec<Node>, Memory>
     requires some { 1 ≤ length nodes.now }
     requires few { length nodes.now ≤ MAX_CLAIM_NODES }
     requires earlier { (k : ℕ) → (n : Node) → slice_get nodes.now k ≡ Some n

@@ -1,16 +1,16 @@
 -- What the weights of an expansion tell of the positions after it.
-use Rattle.std.specs.Prelude.{Some, None, Option}
-use Rattle.std.proofs.Common.{◌≡◌, ◌≢◌, ◌<◌, ◌∙◌, ℕ, Bool, true, false, refl, sym, subst}
-use Rattle.pg_pns.proofs.Common.{Body, Game, Position, Score, View, after, decided, is_free}
+use Rattle.std.specs.Prelude.{Some, None}
+use Rattle.std.proofs.Common.{◌≡◌, ◌≢◌, ◌<◌, ◌∙◌, ℕ, Bool, true, false, sym, subst}
+use Rattle.pg_pns.proofs.Common.{Body, Game, Position, Score, View, after, is_free}
 use Rattle.pg_pns.proofs.Common.{is_over}
 use Rattle.pg_pns.proofs.Common.{IsPosition, point_count}
-use Rattle.pg_pns.specs.Prelude.{Cache, IsLeaf, IsQuestion, Switching}
+use Rattle.pg_pns.specs.Prelude.{Cache, IsQuestion, Switching}
 use Rattle.pg_pns.specs.declared.table.Expansion.{Expansion}
 use Rattle.pg_pns.specs.Met.{IsLeafOf}
 use Rattle.pg_pns.specs.Reading.{IsExpansion, IsMoveAt}
 use Rattle.pg_leaf.specs.Ahead.{IsAhead, IsMoveOf, IsTold}
 use Rattle.pg_leaf.specs.declared.ahead.Told.{Told}
-use Rattle.pg_leaf.specs.declared.ahead.Told.TheVariants.{Unsure, Open, Decided}
+use Rattle.pg_leaf.specs.declared.ahead.Told.TheVariants.{Open, Decided}
 use Rattle.pg_threat.proofs.Boards.{at_same}
 
 module _ (g : Game) (t : Score) (e : Expansion) (b : View) (cache : Cache)

@@ -1,7 +1,7 @@
 -- How answers spread in the table.
 use Rattle.std.proofs.Common.{◌≡◌, ℕ, ◌<◌, ◌≤◌, Option, Some, None, List, [], ◌∷◌, ◌++◌, length}
 use Rattle.std.proofs.Common.{refl, sym, subst, slice_get}
-use Rattle.pg_pns.proofs.Common.{get, equal_positions, Position, Game, Score, at_contains, at_new}
+use Rattle.pg_pns.proofs.Common.{Position, Game, Score, at_contains, at_new}
 use Rattle.pg_pns.specs.declared.known.Answered.{Answered}
 use Rattle.pg_pns.specs.declared.table.Table.{Table}
 use Rattle.pg_pns.specs.Search.{IsSearch}
@@ -25,19 +25,18 @@ pub spread-none : (g : Game) (t : Score) (list : List Position) (due : List ℕ)
     → IsSearch g t (due ++ place ∷ []) list s
     → IsSearch g t due list s
 spread-none g t list due place s agree is = settled-search g t list
-    (due ++ place ∷ []) due s s is refl refl refl refl agree is.tree.shown (λ i b at. at)
+    (due ++ place ∷ []) due s s is refl refl refl agree is.tree.shown (λ i b at. at)
 
 module _ (old new : Table) (due : List ℕ) (place : ℕ) (q : Position) (ns : List (ℕ × ℕ))
     (pos : slice_get old.positions.items place ≡ Some q)
     (mov : slice_get old.moves.items place ≡ Some ns)
-    (ep : get equal_positions new.places ≡ get equal_positions old.places)
     (eq : new.positions.items ≡ old.positions.items) (em : new.moves.items ≡ old.moves.items)
     (eu : new.parents.items ≡ old.parents.items) (g : Game) (t : Score)
     (list : List Position) (is : IsSearch g t (due ++ place ∷ []) list old) where
   -- nothing is known from its moves
   pub spread-open : IsLeftOpen q ns old.answers.items new.answers.items old.claims new.claims
       → IsSearch g t due list new
-  spread-open s = settled-search g t list (due ++ place ∷ []) due old new is ep eq em eu
+  spread-open s = settled-search g t list (due ++ place ∷ []) due old new is eq em eu
       (agree-open old.positions.items old.moves.items old.answers.items new.answers.items due place
       q ns old.claims new.claims pos mov s is.tree.agree)
       (shown-open g t old.positions.items old.answers.items new.answers.items old.claims new.claims
@@ -54,7 +53,7 @@ module _ (old new : Table) (due : List ℕ) (place : ℕ) (q : Position) (ns : L
       → IsSettledAt q ns place old.answers.items new.answers.items old.claims new.claims
       → IsSearch g t (due ++ ups) list new
   spread-settled ups few open_at par some s = settled-search g t list
-      (due ++ place ∷ []) (due ++ ups) old new is ep eq em eu
+      (due ++ place ∷ []) (due ++ ups) old new is eq em eu
       (agree-settled g t old.positions.items old.moves.items old.parents.items old.answers.items
       new.answers.items due ups place q ns old.claims new.claims is.tree.shape is.tree.agree open_at
       pos mov par s)

@@ -35,8 +35,7 @@ fn next_on_way(table: &Table, guide: &Guide, place: u32) -> Option<(u16, u32)>
     ensures none { IfNone result
         (HasOpen (get_or table.now.moves.items place []) table.now.answers.items → ⊥) }
 {
-    let positions = table.positions.as_slice();
-    let side = positions[place as usize].turn;
+    let side = table.positions.key(place).turn();
     let nexts = table.moves.as_slice();
     let moves = nexts[place as usize].as_slice();
     let answers = table.answers.as_slice();

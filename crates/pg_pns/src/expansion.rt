@@ -27,8 +27,7 @@ use indexmap::IndexMap;
 use pg_base::{Goal, Kind, Memory, Score, Side};
 use pg_board::Board;
 use pg_cert::{Claim, Nodes};
-use pg_game::Position;
-use pg_leaf::{Ahead, leaf, order_of, prune};
+use pg_leaf::{Ahead, Key, leaf, order_of, prune};
 use pg_match::PairCache;
 use std::alloc::Global;
 
@@ -95,11 +94,9 @@ fn expand(
         → CanGrow asked.entry.game.now asked.entry.question list table.old k p
         → IsSearch asked.entry.game.now asked.entry.question (k ∷ []) (list ++ p ∷ []) table.new) }
 {
-    let positions = table.positions.as_slice();
-    let p = positions[k as usize];
     let mut expansion = Expansion {
         place: k,
-        position: p,
+        position: board.position(),
         ahead: Ahead::look(board, asked.question),
         nexts: Moves::new(alloc),
     };
@@ -120,7 +117,7 @@ fn expand(
 }
 
 /// Keeps the position that is expanded, after the others, with its place.
-fn keep(expanded: &mut IndexMap<Position, u32>, p: Position, place: u32) -> Result<(), Memory>
+fn keep(expanded: &mut IndexMap<Key, u32>, p: Key, place: u32) -> Result<(), Memory>
     requires fresh { Contains (keys_of expanded.old.entries) p → ⊥ }
     ensures kept { OnOk result
         (keys_of expanded.new.entries ≡ keys_of expanded.old.entries ++ p ∷ []) }
@@ -143,7 +140,7 @@ fn order_at(alloc: Global, table: &Table, board: &Board<'_>, k: u32) -> Result<V
 fn step(
     alloc: Global,
     asked: Asked<'_>,
-    work: &mut IndexMap<Position, u32>,
+    work: &mut IndexMap<Key, u32>,
     board: &mut Board<'_>,
     cache: &mut PairCache,
     table: &mut Table,
@@ -160,9 +157,8 @@ fn step(
         (keys_of work.new.entries) table.new) }
 {
     let k = go_down(table, guide, board);
-    let positions = table.positions.as_slice();
-    let p = positions[k as usize];
-    keep(work, p, k)?;
+    let p = table.positions.key(k);
+    keep(work, *p, k)?;
     expand(alloc, asked, k, board, cache, table)?;
     let order = order_at(alloc, table, board, k)?;
     go_up(board);
@@ -188,7 +184,6 @@ fn claim_of(
 {
     let Table {
         positions: _positions,
-        places: _places,
         moves: _moves,
         parents: _parents,
         answers: _answers,
@@ -216,7 +211,7 @@ fn find_answer(
     alloc: Global,
     asked: Asked<'_>,
     budget: u32,
-    expanded: &mut IndexMap<Position, u32>,
+    expanded: &mut IndexMap<Key, u32>,
     board: &mut Board<'_>,
     cache: &mut PairCache,
     table: &mut Table,
@@ -249,7 +244,7 @@ fn explore_on(
     alloc: Global,
     asked: Asked<'_>,
     budget: u32,
-    expanded: &mut IndexMap<Position, u32>,
+    expanded: &mut IndexMap<Key, u32>,
     board: &mut Board<'_>,
     cache: &mut PairCache,
 ) -> Result<Found, Memory>
@@ -277,7 +272,7 @@ pub(crate) fn explore(
     alloc: Global,
     asked: Asked<'_>,
     budget: u32,
-    expanded: &mut IndexMap<Position, u32>,
+    expanded: &mut IndexMap<Key, u32>,
     cache: &mut PairCache,
 ) -> Result<Found, Memory>
     requires can { IsAskedOf asked.game.now asked.question }
@@ -310,7 +305,9 @@ fn first_table(
     let mut table = Table::new(alloc);
     let root = asked.game.start();
     let found = leaf(alloc, asked.game, asked.question, &root, board, cache)?;
-    table.add(alloc, asked, root, found)?;
+    let key = Key::of(&root);
+    table.positions.meet(key)?;
+    table.add(alloc, asked, key, found)?;
     Ok(table)
 }
 

@@ -62,10 +62,10 @@ fn first_best(
 /// The numbers of the position at a place, from its answer or from its moves.
 fn fresh_at(table: &Table, place: u32, numbers: &[Numbers]) -> Numbers {
     let i = place as usize;
-    let positions = table.positions.as_slice();
-    let Some(p) = positions.get(i) else {
+    if i >= table.positions.len() {
         return Numbers::unknown();
-    };
+    }
+    let turn = table.positions.key(place).turn();
     let answers: &[Option<Answered>] = table.answers.as_slice();
     let Some(answer) = answers.get(i) else {
         return Numbers::unknown();
@@ -74,7 +74,7 @@ fn fresh_at(table: &Table, place: u32, numbers: &[Numbers]) -> Numbers {
     let Some(moves) = nexts.get(i) else {
         return Numbers::unknown();
     };
-    fresh_numbers(*answer, p.turn, moves.as_slice(), numbers)
+    fresh_numbers(*answer, turn, moves.as_slice(), numbers)
 }
 
 /// Brings the numbers at a place up to date, and tells whether they changed.

@@ -12,6 +12,7 @@ mod known;
 pub mod laws;
 mod limits;
 mod lists;
+mod met;
 mod numbers;
 mod settle;
 mod table;

@@ -1,24 +1,23 @@
 //! The positions that a search has met.
-ghost use Rattle.std.specs.Prelude.{◌≡◌, ◌<◌, ◌^◌, [], length, None, IfOk, true, false};
-ghost use Rattle.pg_pns.specs.Prelude.{get, Score, Game, IsPosition, Position, after};
-ghost use Rattle.pg_pns.specs.Prelude.{equal_positions};
+ghost use Rattle.std.specs.Prelude.{◌≡◌, ◌<◌, ◌^◌, ℕ, List, [], length, IfOk, OnOk, true, false};
+ghost use Rattle.pg_pns.specs.Prelude.{Score, Game, IsPosition, Position, after};
 ghost use Rattle.pg_pns.specs.Claims.{nodes_of};
-ghost use Rattle.pg_pns.specs.Met.{IsLeafOf, LeafAdds};
+ghost use Rattle.pg_pns.specs.Met.{IsLeafOf, IsMeeting, LeafAdds};
 ghost use Rattle.pg_pns.specs.Reading.{IsReadAt, IsExpansion, IsKept, IsMoveAt};
-ghost use Rattle.pg_pns.specs.Tree.{IsTreeOf, IsMetAt};
+ghost use Rattle.pg_pns.specs.Tree.{IsTreeOf, IsTreeFor, IsMetAt, IsMetFrom};
 
 use crate::asked::Asked;
 use crate::claims::Claims;
 use crate::known::Answered;
 use crate::lists::{Moves, Places};
+use crate::met::Met;
 use pg_base::Memory;
 use pg_board::Board;
-use pg_cert::{Body, Node};
+use pg_cert::Body;
 use pg_game::Position;
-use pg_leaf::{Ahead, Told, leaf};
+use pg_leaf::{Ahead, KeptNode, Key, Told, leaf};
 use pg_match::PairCache;
 use std::alloc::Global;
-use std::collections::HashMap;
 
 /// A position that is expanded, with its place, what its weights tell of those after it, and its
 /// moves that are met so far.
@@ -34,8 +33,7 @@ pub(crate) struct Expansion {
 /// them, and their answers.
 #[derive(Debug, Drop)]
 pub(crate) struct Table {
-    pub(crate) positions: Vec<Position>,
-    pub(crate) places: HashMap<Position, u32>,
+    pub(crate) positions: Met,
     pub(crate) moves: Vec<Moves>,
     pub(crate) parents: Vec<Places>,
     pub(crate) answers: Vec<Option<Answered>>,
@@ -44,27 +42,18 @@ pub(crate) struct Table {
 
 /// Keeps what a criterion answers at a position with a node that shows it.
 pub(crate) fn keep_leaf(
-    p: &Position,
+    p: Key,
     found: Option<(bool, Body)>,
     claims: &mut Claims,
 ) -> Result<Option<Answered>, Memory>
     requires yes_room { length (nodes_of claims.old true) < 2 ^ 32 }
     requires no_room { length (nodes_of claims.old false) < 2 ^ 32 }
-    ensures { IfOk result (λ a. (g : Game) → (t : Score) → IsLeafOf g t p.now found
-        → LeafAdds g t p.now a (nodes_of claims.old) (nodes_of claims.new)) }
+    ensures { IfOk result (λ a. (g : Game) → (t : Score) → IsLeafOf g t p found
+        → LeafAdds g t p a (nodes_of claims.old) (nodes_of claims.new)) }
 {
     match found {
         Some((answer, body)) => {
-            let node = claims.add(
-                answer,
-                Node {
-                    x: p.x,
-                    y: p.y,
-                    turn: p.turn,
-                    left: p.left,
-                    body,
-                },
-            )?;
+            let node = claims.add(answer, KeptNode::new(p, body))?;
             Ok(Some(Answered { answer, node }))
         }
         None => Ok(None),
@@ -75,14 +64,12 @@ impl Table {
     /// No positions.
     pub(crate) fn new(alloc: Global) -> Table
         ensures tree { (g : Game) → (t : Score) → IsTreeOf g t result }
-        ensures places { (q : Position) → get equal_positions result.places q ≡ None }
         ensures positions { result.positions.items ≡ [] }
         ensures moves { result.moves.items ≡ [] }
         ensures parents { result.parents.items ≡ [] }
     {
         Table {
-            positions: Vec::new(alloc),
-            places: HashMap::new(alloc),
+            positions: Met::new(alloc),
             moves: Vec::new(alloc),
             parents: Vec::new(alloc),
             answers: Vec::new(alloc),
@@ -90,41 +77,31 @@ impl Table {
         }
     }
 
-    /// The place of a position, and None where it wasn't met.
-    pub(crate) fn find(&self, q: &Position) -> Option<u32>
-        ensures { result ≡ get equal_positions self.now.places q.now }
-    {
-        match self.places.get(q) {
-            Some(place) => Some(*place),
-            None => None,
-        }
-    }
-
-    /// Adds a position that wasn't met, with the leaf that a criterion gives it, and gives its
-    /// place.
+    /// Adds what is kept for the position that was met last, with the leaf that a criterion gives
+    /// it.
     pub(crate) fn add(
         &mut self,
         alloc: Global,
         asked: Asked<'_>,
-        q: Position,
+        q: Key,
         found: Option<(bool, Body)>,
-    ) -> Result<u32, Memory>
+    ) -> Result<(), Memory>
         requires position { IsPosition asked.game.now q }
         requires found { IsLeafOf asked.game.now asked.question q found }
-        requires fresh { get equal_positions self.old.places q ≡ None }
-        requires few { length self.old.positions.items < 2 ^ 32 }
-        requires tree { IsTreeOf asked.game.now asked.question self.old }
-        ensures { IfOk result
-            (λ place. IsMetAt asked.entry.game.now asked.entry.question self.old self.new q place) }
+        requires tree { (before : List Position)
+            × IsTreeFor asked.game.now asked.question before self.old
+            × (length before < 2 ^ 32) }
+        ensures { OnOk result ((before : List Position) → (place : ℕ)
+            → IsTreeFor asked.entry.game.now asked.entry.question before self.old
+            → IsMeeting q before self.old.positions.items place true
+            → IsMetFrom asked.entry.game.now asked.entry.question before self.old self.new q
+            place) }
     {
-        let number = self.positions.len() as u32;
-        let answer = keep_leaf(&q, found, &mut self.claims)?;
-        self.places.insert(q, number)?;
-        self.positions.push(q)?;
+        let answer = keep_leaf(q, found, &mut self.claims)?;
         self.moves.push(Moves::new(alloc))?;
         self.parents.push(Places::new(alloc))?;
         self.answers.push(answer)?;
-        Ok(number)
+        Ok(())
     }
 }
 
@@ -178,9 +155,12 @@ pub(crate) fn meet_after(
         (after asked.entry.game.now expansion.now.position v) place) }
 {
     let q = asked.game.after(&expansion.position, v);
-    if let Some(known) = table.find(&q) {
-        return Ok(known);
+    let key = Key::of(&q);
+    let (place, is_new) = table.positions.meet(key)?;
+    if !is_new {
+        return Ok(place);
     }
     let found = leaf_after(alloc, asked, expansion, &q, v, board, cache)?;
-    table.add(alloc, asked, q, found)
+    table.add(alloc, asked, key, found)?;
+    Ok(place)
 }

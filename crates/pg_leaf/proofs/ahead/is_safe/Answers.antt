@@ -1,4 +1,4 @@
-use Rattle.std.proofs.Common.{◌≡◌, ◌≢◌, ◌∙◌, true, false, sym, ap, subst, eqb-true}
+use Rattle.std.proofs.Common.{◌≡◌, ◌≢◌, ◌∙◌, sym, ap, subst, eqb-true}
 use Rattle.pg_leaf.proofs.Common.{Game, Side, live_with}
 use Rattle.pg_threat.proofs.Deciding.{attack_wins-biased, attack_wins-not}
 use Rattle.pg_leaf.proofs.Foreseeing.{no-attack}

@@ -1,8 +1,8 @@
-use Rattle.std.proofs.Common.{◌≡◌, ◌+◌, ◌∙◌, true, false, sym, ap}
+use Rattle.std.proofs.Common.{◌≡◌, ◌∙◌, sym, ap}
 use Rattle.pg_leaf.proofs.Common.{points_of}
 use Rattle.pg_base.specs.declared.side.Side.TheVariants.{Y}
 use Rattle.pg_game.specs.Potential.{total_weight}
-use Rattle.pg_leaf.specs.Ahead.{base_for, is_avoiding}
+use Rattle.pg_leaf.specs.Ahead.{is_avoiding}
 use Rattle.pg_leaf.proofs.Foreseeing.{avoider-parts, other-base}
 use Rattle.pg_leaf.proofs.ahead.total_of.Goals as goal
 

@@ -1,5 +1,6 @@
-use Rattle.std.proofs.Common.{◌≡◌, ◌∙◌, ◌++◌, ◌∷◌, ℕ, List, [], length, refl, sym, ap, subst, rules}
+use Rattle.std.proofs.Common.{◌≡◌, ◌∙◌, ◌++◌, ◌∷◌, ℕ, List, [], length, sym, ap, subst, rules}
 use Rattle.std.proofs.lemmas.Bool.{false≢true}
+use Rattle.pg_leaf.proofs.Common.{Body}
 use Rattle.pg_leaf.specs.Pruned.{Renumbers}
 use Rattle.pg_leaf.proofs.pruning.keep_node.Goals as goal
 
@@ -9,16 +10,14 @@ returns c =
     record {
       number = c.in_ok-push.ensures.items ∙ ap (λ n. c.args.numbers.now.items ++ n ∷ []) len;
       taken = λ _. (
-        record {
-          x = c.args.node.now.x;
-          y = c.args.node.now.y;
-          turn = c.args.node.now.turn;
-          left = c.args.node.now.left;
-          body = c.in_ok-body.body;
-        },
-        refl,
-        subst (λ (ns : List ℕ). Renumbers ns c.args.node.now.body c.in_ok-body.body)
-            c.as_slice.ensures.value c.in_ok-body.ensures,
+        c.with_body.result,
+        c.with_body.ensures.position,
+        subst (λ (b : Body). Renumbers c.push.new.self.items c.args.node.now.body b)
+            (sym c.with_body.ensures.body)
+            (subst (λ (b : Body). Renumbers c.push.new.self.items b c.in_ok-body.body)
+            c.body.ensures
+            (subst (λ (ns : List ℕ). Renumbers ns c.body.result.now c.in_ok-body.body)
+            c.as_slice.ensures.value c.in_ok-body.ensures)),
         c.in_ok-push-2.ensures.items,
       );
       left = λ off. absurd (false≢true (sym off ∙ c.if-not-marked.false));

@@ -1,8 +1,8 @@
 use Rattle.std.proofs.Common.{◌≡◌, ◌∙◌, ◌<◌, ◌++◌, ◌∷◌, [], ℕ, List, slice_get, slice_set, get_or}
-use Rattle.std.proofs.Common.{length, refl, sym, ap, subst, arith, false}
+use Rattle.std.proofs.Common.{length, refl, sym, ap, subst, arith, false, Some}
 use Rattle.pg_pns.proofs.Common.{slice_get_within, slice_get_read, with_items_is, length-set}
 use Rattle.pg_pns.proofs.Common.{with_items, Position, Game, Score, IsPosition, point_count, View}
-use Rattle.pg_pns.proofs.Common.{IsAt, is_over, one_at, undecided-going}
+use Rattle.pg_pns.proofs.Common.{IsAt, is_over, one_at, undecided-going, get_or_from_slice_get}
 use Rattle.pg_leaf.specs.Ahead.{IsAhead}
 use Rattle.pg_leaf.specs.declared.ahead.Ahead.{Ahead}
 use Rattle.pg_pns.specs.declared.table.Table.{Table}
@@ -20,6 +20,28 @@ read-same g t list s k p r c is = one_at s.positions.items k p r c.at
     (slice_get_read s.positions.items (length s.positions.items) k r refl
     (slice_get_within s.positions.items k p c.at) is)
 
+-- the board stands at the position of the place
+stands-there : (g : Game) (t : Score) (list : List Position) (s : Table) (k : ℕ) (p r : Position)
+    (b : View)
+    → CanGrow g t list s k p
+    → IsAt g p b
+    → r ≡ b.stand.position
+    → r ≡ get_or s.positions.items k r
+stands-there g t list s k p r b can at is =
+    let same : p ≡ r = sym (is ∙ at.position) in
+    sym (get_or_from_slice_get s.positions.items k r r (can.at ∙ ap Some same))
+
+-- and so it is when the moves begin
+read-there : (g : Game) (t : Score) (list : List Position) (s : Table) (k : ℕ) (p r : Position)
+    (b : View)
+    → CanGrow g t list s k p
+    → IsAt g p b
+    → r ≡ b.stand.position
+    → IsGrowing g t list k r 0 s []
+read-there g t list s k p r b can at is =
+    subst (λ (q : Position). IsGrowing g t list k q 0 s []) (sym (is ∙ at.position))
+    (growing-start g t list k p s can)
+
 pub loop-v-init : goal.loop-v-init
 loop-v-init c = (
   record {
@@ -27,21 +49,16 @@ loop-v-init c = (
     fits = (c.requires.reads c.requires.grows.1 c.requires.grows.2.at).fits;
   },
   refl,
-  c.index-positions-k.is ∙ ap
-      (λ (qs : List Position). get_or qs c.args.k c.index-positions-k.result)
-      c.as_slice-positions.ensures.value,
+  stands-there c.args.asked.game.now c.args.asked.question c.requires.grows.0 c.args.table.now
+      c.args.k c.requires.grows.1 c.position.result c.args.board.now c.requires.grows.2
+      (c.requires.reads c.requires.grows.1 c.requires.grows.2.at).stands c.position.ensures.exact,
   c.look.ensures,
   λ list p can. subst
       (λ (ns : List (ℕ × ℕ)). IsGrowing c.args.asked.game.now c.args.asked.question list c.args.k
-      c.index-positions-k.result 0 c.args.table.now ns) (sym c.new.ensures)
-      (subst (λ (q : Position).
-      IsGrowing c.args.asked.game.now c.args.asked.question list c.args.k q 0 c.args.table.now [])
-      (read-same c.args.asked.game.now c.args.asked.question list c.args.table.now c.args.k p
-      c.index-positions-k.result can (c.index-positions-k.is ∙ ap
-      (λ (qs : List Position). get_or qs c.args.k c.index-positions-k.result)
-      c.as_slice-positions.ensures.value))
-      (growing-start c.args.asked.game.now c.args.asked.question list c.args.k p c.args.table.now
-      can)),
+      c.position.result 0 c.args.table.now ns) (sym c.new.ensures)
+      (read-there c.args.asked.game.now c.args.asked.question list c.args.table.now c.args.k p
+      c.position.result c.args.board.now can (c.requires.reads p can.at).stands
+      c.position.ensures.exact),
 )
 
 pub bounds-as_mut_slice-k : goal.bounds-as_mut_slice-k
@@ -72,7 +89,6 @@ returns-clause-grows c =
     c.args.k p c.loop-v.expansion.position can c.loop-v.invariant.2 in
     let new : Table = record {
       positions = c.loop-v.table.positions;
-      places = c.loop-v.table.places;
       moves = with_items c.loop-v.table.moves
           (slice_set c.as_mut_slice.result.now c.args.k c.loop-v.expansion.nexts);
       parents = c.loop-v.table.parents;
@@ -85,7 +101,7 @@ returns-clause-grows c =
     c.loop-v.expansion.position c.loop-v.table new c.loop-v.expansion.nexts is refl
     (written
     ∙ ap (λ (ms : List (List (ℕ × ℕ))). slice_set ms c.args.k c.loop-v.expansion.nexts)
-    c.as_mut_slice.ensures.value) refl refl refl refl)
+    c.as_mut_slice.ensures.value) refl refl refl)
 
 pub loop-v-preserved-then-not-is_free : goal.loop-v-preserved-then-not-is_free
 loop-v-preserved-then-not-is_free c = (

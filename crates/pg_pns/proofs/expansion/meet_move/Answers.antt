@@ -35,7 +35,6 @@ returns-clause-grows c =
     (λ (ns : List (ℕ × ℕ)). IsGrowing c.args.asked.game.now c.args.asked.question list
     c.args.expansion.now.place c.args.expansion.now.position (c.args.v + 1) (record {
       positions = c.meet_after.new.table.positions;
-      places = c.meet_after.new.table.places;
       moves = c.meet_after.new.table.moves;
       parents = with_items c.meet_after.new.table.parents c.add_parent.new.parents;
       answers = c.meet_after.new.table.answers;
@@ -44,10 +43,9 @@ returns-clause-grows c =
     (growing-move c.args.asked.game.now c.args.asked.question list c.args.expansion.now.place
     c.args.expansion.now.position c.args.v c.args.table.now c.meet_after.new.table (record {
       positions = c.meet_after.new.table.positions;
-      places = c.meet_after.new.table.places;
       moves = c.meet_after.new.table.moves;
       parents = with_items c.meet_after.new.table.parents c.add_parent.new.parents;
       answers = c.meet_after.new.table.answers;
       claims = c.meet_after.new.table.claims;
     }) c.args.expansion.now.nexts c.in_ok-place.place ups is c.requires.moves.point
-    c.requires.moves.free m ups_at refl refl (written ∙ set) refl refl refl)
+    c.requires.moves.free m ups_at refl refl (written ∙ set) refl refl)

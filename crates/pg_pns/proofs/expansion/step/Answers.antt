@@ -1,6 +1,7 @@
-use Rattle.std.proofs.Common.{◌≡◌, ◌<◌, ◌∙◌, ◌++◌, ◌∷◌, [], ℕ, List, get_or, length, length-append}
+use Rattle.std.proofs.Common.{◌≡◌, ◌∙◌, ◌++◌, ◌∷◌, [], ℕ, List, Some, length, length-append}
+use Rattle.std.proofs.Common.{slice_get}
 use Rattle.std.proofs.Common.{refl, sym, ap, subst, arith}
-use Rattle.pg_pns.proofs.Common.{slice_get_read, slice_get_within, keys_of, Contains, Position}
+use Rattle.pg_pns.proofs.Common.{slice_get_within, keys_of, Contains, Position}
 use Rattle.pg_pns.proofs.Common.{Game, Score, IsTable, View, start, one_at, contains_at, at_old}
 use Rattle.pg_pns.proofs.Common.{at_new}
 use Rattle.pg_pns.specs.declared.table.Table.{Table}
@@ -11,17 +12,12 @@ use Rattle.pg_pns.proofs.Descending.{back-at-start}
 use Rattle.pg_pns.proofs.expansion.step.Goals as goal
 
 -- the place that was chosen, with the position read there
-chosen : (g : Game) (t : Score) (list ps : List Position) (s : Table) (k : ℕ) (p : Position)
+chosen : (g : Game) (t : Score) (list : List Position) (s : Table) (k : ℕ) (p : Position)
     → IsSearch g t [] list s
     → IsNext s k
-    → ps ≡ s.positions.items
-    → p ≡ get_or ps k p
+    → slice_get s.positions.items k ≡ Some p
     → CanGrow g t list s k p
-chosen g t list ps s k p is next e read =
-    let inside = next-in g t list s k is next in
-    can-grow g t list s k p is next
-    (slice_get_read s.positions.items (length s.positions.items) k p refl inside
-    (read ∙ ap (λ (qs : List Position). get_or qs k p) e))
+chosen g t list s k p is next at = can-grow g t list s k p is next at
 
 pub go_down-k-requires-clause-search : goal.go_down-k-requires-clause-search
 go_down-k-requires-clause-search c = (
@@ -59,13 +55,10 @@ returns-clause-starts c =
     (c.go_up.ensures.game ∙ ap (λ (b : View). b.game) kept)
     (c.go_up.ensures.stand ∙ ap first_stand kept) c.go_up.ensures.earlier
 
-pub bounds-positions-k : goal.bounds-positions-k
-bounds-positions-k c =
-    let inside =
+pub key-p-requires : goal.key-p-requires
+key-p-requires c =
     next-in c.args.asked.game.now c.args.asked.question (keys_of c.args.work.now.entries)
-    c.args.table.now c.go_down-k.result c.requires.goes.search c.go_down-k.ensures.next in
-    subst (λ (ps : List Position). c.go_down-k.result < length ps)
-    (sym c.as_slice-positions.ensures.value) inside
+    c.args.table.now c.go_down-k.result c.requires.goes.search c.go_down-k.ensures.next
 
 -- a position that can be expanded wasn't
 unlisted : (g : Game) (t : Score) (list : List Position) (s : Table) (k : ℕ) (p : Position)
@@ -81,22 +74,20 @@ unlisted g t list s k p can c =
 
 pub keep-requires : goal.keep-requires
 keep-requires c = record {
-  fresh = unlisted c.args.asked.game.now c.args.asked.question (keys_of c.args.work.now.entries)
-      c.args.table.now c.go_down-k.result c.index-positions-k.result
+  fresh = unlisted c.args.asked.game.now c.args.asked.question
+      (keys_of c.args.work.now.entries) c.args.table.now c.go_down-k.result c.key-p.result.now
       (chosen c.args.asked.game.now c.args.asked.question
-      (keys_of c.args.work.now.entries) c.as_slice-positions.result.now c.args.table.now
-      c.go_down-k.result c.index-positions-k.result c.requires.goes.search c.go_down-k.ensures.next
-      c.as_slice-positions.ensures.value c.index-positions-k.is);
+      (keys_of c.args.work.now.entries) c.args.table.now c.go_down-k.result c.key-p.result.now
+      c.requires.goes.search c.go_down-k.ensures.next c.key-p.ensures);
 }
 
 pub expand-requires-clause-grows : goal.expand-requires-clause-grows
 expand-requires-clause-grows c = (
   (keys_of c.args.work.now.entries),
-  c.index-positions-k.result,
+  c.key-p.result.now,
   chosen c.args.asked.game.now c.args.asked.question
-      (keys_of c.args.work.now.entries) c.as_slice-positions.result.now c.args.table.now
-      c.go_down-k.result c.index-positions-k.result c.requires.goes.search c.go_down-k.ensures.next
-      c.as_slice-positions.ensures.value c.index-positions-k.is,
+      (keys_of c.args.work.now.entries) c.args.table.now c.go_down-k.result c.key-p.result.now
+      c.requires.goes.search c.go_down-k.ensures.next c.key-p.ensures,
   c.requires.goes.few,
 )
 
@@ -105,95 +96,85 @@ returns-in_err-expand-clause-rules c =
     subst (λ (w : List Position). IsTable c.args.asked.game.now c.args.asked.question w)
     (sym c.in_ok-keep.ensures.kept)
     (chosen c.args.asked.game.now c.args.asked.question
-    (keys_of c.args.work.now.entries) c.as_slice-positions.result.now c.args.table.now
-    c.go_down-k.result c.index-positions-k.result c.requires.goes.search c.go_down-k.ensures.next
-    c.as_slice-positions.ensures.value c.index-positions-k.is).rules
+    (keys_of c.args.work.now.entries) c.args.table.now c.go_down-k.result c.key-p.result.now
+    c.requires.goes.search c.go_down-k.ensures.next c.key-p.ensures).rules
 
 pub settle_from-requires-clause-some : goal.settle_from-requires-clause-some
 settle_from-requires-clause-some c = (
   c.args.asked.game.now,
   c.args.asked.question,
-  keys_of c.args.work.now.entries ++ c.index-positions-k.result ∷ [],
-  c.in_ok-expand.ensures.grows (keys_of c.args.work.now.entries) c.index-positions-k.result
+  keys_of c.args.work.now.entries ++ c.key-p.result.now ∷ [],
+  c.in_ok-expand.ensures.grows (keys_of c.args.work.now.entries) c.key-p.result.now
       (chosen c.args.asked.game.now c.args.asked.question
-      (keys_of c.args.work.now.entries) c.as_slice-positions.result.now c.args.table.now
-      c.go_down-k.result c.index-positions-k.result c.requires.goes.search c.go_down-k.ensures.next
-      c.as_slice-positions.ensures.value c.index-positions-k.is),
+      (keys_of c.args.work.now.entries) c.args.table.now c.go_down-k.result c.key-p.result.now
+      c.requires.goes.search c.go_down-k.ensures.next c.key-p.ensures),
 )
 
 pub settle_from-requires-clause-few : goal.settle_from-requires-clause-few
 settle_from-requires-clause-few c =
     few-from c.args.asked.game.now c.args.asked.question (c.go_down-k.result ∷ [])
-    (keys_of c.args.work.now.entries) c.index-positions-k.result c.expand.new.table
-    (c.in_ok-expand.ensures.grows (keys_of c.args.work.now.entries) c.index-positions-k.result
+    (keys_of c.args.work.now.entries) c.key-p.result.now c.expand.new.table
+    (c.in_ok-expand.ensures.grows (keys_of c.args.work.now.entries) c.key-p.result.now
     (chosen c.args.asked.game.now c.args.asked.question
-    (keys_of c.args.work.now.entries) c.as_slice-positions.result.now c.args.table.now
-    c.go_down-k.result c.index-positions-k.result c.requires.goes.search c.go_down-k.ensures.next
-    c.as_slice-positions.ensures.value c.index-positions-k.is)) c.requires.goes.few
+    (keys_of c.args.work.now.entries) c.args.table.now c.go_down-k.result c.key-p.result.now
+    c.requires.goes.search c.go_down-k.ensures.next c.key-p.ensures)) c.requires.goes.few
 
 pub returns-in_err-settle_from-clause-rules : goal.returns-in_err-settle_from-clause-rules
 returns-in_err-settle_from-clause-rules c =
     subst (λ (w : List Position). IsTable c.args.asked.game.now c.args.asked.question w)
     (sym c.in_ok-keep.ensures.kept)
     (chosen c.args.asked.game.now c.args.asked.question
-    (keys_of c.args.work.now.entries) c.as_slice-positions.result.now c.args.table.now
-    c.go_down-k.result c.index-positions-k.result c.requires.goes.search c.go_down-k.ensures.next
-    c.as_slice-positions.ensures.value c.index-positions-k.is).rules
+    (keys_of c.args.work.now.entries) c.args.table.now c.go_down-k.result c.key-p.result.now
+    c.requires.goes.search c.go_down-k.ensures.next c.key-p.ensures).rules
 
 pub returns-in_err-order-clause-rules : goal.returns-in_err-order-clause-rules
 returns-in_err-order-clause-rules c =
     subst (λ (w : List Position). IsTable c.args.asked.game.now c.args.asked.question w)
     (sym c.in_ok-keep.ensures.kept)
     (chosen c.args.asked.game.now c.args.asked.question
-    (keys_of c.args.work.now.entries) c.as_slice-positions.result.now c.args.table.now
-    c.go_down-k.result c.index-positions-k.result c.requires.goes.search c.go_down-k.ensures.next
-    c.as_slice-positions.ensures.value c.index-positions-k.is).rules
+    (keys_of c.args.work.now.entries) c.args.table.now c.go_down-k.result c.key-p.result.now
+    c.requires.goes.search c.go_down-k.ensures.next c.key-p.ensures).rules
 
 pub update-requires : goal.update-requires
 update-requires c = few-from c.args.asked.game.now c.args.asked.question []
-    (keys_of c.args.work.now.entries) c.index-positions-k.result c.settle_from.new.table
+    (keys_of c.args.work.now.entries) c.key-p.result.now c.settle_from.new.table
     (c.in_ok-settle_from.ensures c.args.asked.game.now c.args.asked.question
-    ((keys_of c.args.work.now.entries) ++ c.index-positions-k.result ∷ [])
-    (c.in_ok-expand.ensures.grows (keys_of c.args.work.now.entries) c.index-positions-k.result
+    ((keys_of c.args.work.now.entries) ++ c.key-p.result.now ∷ [])
+    (c.in_ok-expand.ensures.grows (keys_of c.args.work.now.entries) c.key-p.result.now
     (chosen c.args.asked.game.now c.args.asked.question
-    (keys_of c.args.work.now.entries) c.as_slice-positions.result.now c.args.table.now
-    c.go_down-k.result c.index-positions-k.result c.requires.goes.search c.go_down-k.ensures.next
-    c.as_slice-positions.ensures.value c.index-positions-k.is))) c.requires.goes.few
+    (keys_of c.args.work.now.entries) c.args.table.now c.go_down-k.result c.key-p.result.now
+    c.requires.goes.search c.go_down-k.ensures.next c.key-p.ensures))) c.requires.goes.few
 
 pub returns-in_err-update-clause-rules : goal.returns-in_err-update-clause-rules
 returns-in_err-update-clause-rules c =
     subst (λ (w : List Position). IsTable c.args.asked.game.now c.args.asked.question w)
     (sym c.in_ok-keep.ensures.kept)
     (chosen c.args.asked.game.now c.args.asked.question
-    (keys_of c.args.work.now.entries) c.as_slice-positions.result.now c.args.table.now
-    c.go_down-k.result c.index-positions-k.result c.requires.goes.search c.go_down-k.ensures.next
-    c.as_slice-positions.ensures.value c.index-positions-k.is).rules
+    (keys_of c.args.work.now.entries) c.args.table.now c.go_down-k.result c.key-p.result.now
+    c.requires.goes.search c.go_down-k.ensures.next c.key-p.ensures).rules
 
 pub returns-clause-rules : goal.returns-clause-rules
 returns-clause-rules c =
     subst (λ (w : List Position). IsTable c.args.asked.game.now c.args.asked.question w)
     (sym c.in_ok-keep.ensures.kept)
     (chosen c.args.asked.game.now c.args.asked.question
-    (keys_of c.args.work.now.entries) c.as_slice-positions.result.now c.args.table.now
-    c.go_down-k.result c.index-positions-k.result c.requires.goes.search c.go_down-k.ensures.next
-    c.as_slice-positions.ensures.value c.index-positions-k.is).rules
+    (keys_of c.args.work.now.entries) c.args.table.now c.go_down-k.result c.key-p.result.now
+    c.requires.goes.search c.go_down-k.ensures.next c.key-p.ensures).rules
 
 pub returns-clause-goes : goal.returns-clause-goes
 returns-clause-goes c = record {
-  search = subst
-      (λ (w : List Position). IsSearch c.args.asked.game.now c.args.asked.question [] w
+  search = subst (λ (w : List Position). IsSearch c.args.asked.game.now c.args.asked.question [] w
       c.settle_from.new.table) (sym c.in_ok-keep.ensures.kept)
       (c.in_ok-settle_from.ensures c.args.asked.game.now c.args.asked.question
-      (keys_of c.args.work.now.entries ++ c.index-positions-k.result ∷ [])
-      (c.in_ok-expand.ensures.grows (keys_of c.args.work.now.entries) c.index-positions-k.result
+      (keys_of c.args.work.now.entries ++ c.key-p.result.now ∷ [])
+      (c.in_ok-expand.ensures.grows (keys_of c.args.work.now.entries) c.key-p.result.now
       (chosen c.args.asked.game.now c.args.asked.question
-      (keys_of c.args.work.now.entries) c.as_slice-positions.result.now c.args.table.now
-      c.go_down-k.result c.index-positions-k.result c.requires.goes.search c.go_down-k.ensures.next
-      c.as_slice-positions.ensures.value c.index-positions-k.is)));
+      (keys_of c.args.work.now.entries) c.args.table.now c.go_down-k.result c.key-p.result.now
+      c.requires.goes.search c.go_down-k.ensures.next c.key-p.ensures)));
   count = ap length c.in_ok-keep.ensures.kept
       ∙ omega (
         arith,
         length-append (keys_of c.args.work.now.entries)
-            (c.index-positions-k.result ∷ []),
+            (c.key-p.result.now ∷ []),
       );
 }

@@ -3,17 +3,11 @@ use Rattle.pg_pns.proofs.table.keep_leaf.Goals as goal
 
 pub returns-in_ok-node-in-Some : goal.returns-in_ok-node-in-Some
 returns-in_ok-node-in-Some c = λ g t is. record {
-  node = record {
-    x = c.args.p.now.x;
-    y = c.args.p.now.y;
-    turn = c.args.p.now.turn;
-    left = c.args.p.now.left;
-    body = c.in-Some.body;
-  };
+  node = c.new.result;
   decides = sym (rw c.in-Some.is at is.answer);
   number = c.in_ok-node-in-Some.ensures.number;
-  position = refl;
-  shows = rw c.in-Some.is at is.body;
+  position = c.new.ensures.position;
+  shows = rw c.new.ensures.body (rw c.in-Some.is at is.body);
   added = c.in_ok-node-in-Some.ensures.added;
   other = c.in_ok-node-in-Some.ensures.other;
 }

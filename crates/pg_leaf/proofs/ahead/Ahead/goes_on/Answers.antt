@@ -1,7 +1,7 @@
-use Rattle.std.proofs.Common.{◌≡◌, ◌≢◌, ◌∙◌, ◌≤◌, length, true, false, sym, ap, subst, arith}
+use Rattle.std.proofs.Common.{◌∙◌, sym, ap, arith}
 use Rattle.std.proofs.Common.{eqb-true}
-use Rattle.pg_leaf.proofs.Common.{MakerMaker, Side, free_points, live_with}
-use Rattle.pg_base.specs.Side.{other, is_same_side}
+use Rattle.pg_leaf.proofs.Common.{Side, live_with}
+use Rattle.pg_base.specs.Side.{other}
 use Rattle.pg_base.specs.declared.side.Side.TheVariants.{Y}
 use Rattle.pg_game.specs.Threat.{is_race}
 use Rattle.pg_leaf.proofs.Foreseeing.{no-race, on-few, on-light, on-waiting, same-side}

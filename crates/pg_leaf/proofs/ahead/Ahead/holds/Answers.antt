@@ -1,9 +1,7 @@
-use Rattle.std.proofs.Common.{◌≡◌, ◌∙◌, ◌-◌, ◌≤◌, ◌<◌, ℕ, length, true, false, refl, sym, ap}
+use Rattle.std.proofs.Common.{◌≡◌, ◌∙◌, ◌-◌, length, true, false, refl, sym, ap}
 use Rattle.std.proofs.Common.{arith}
 use Rattle.std.proofs.lemmas.Bool.{lt-ltb}
 use Rattle.pg_leaf.proofs.Common.{breaker_of, free_points, Game}
-use Rattle.pg_base.specs.Side.{is_same_side}
-use Rattle.pg_game.proofs.WeightBounds.{bias-le}
 use Rattle.pg_leaf.specs.Ahead.{is_avoiding}
 use Rattle.pg_game.specs.Avoider.{x_takes_last}
 use Rattle.pg_leaf.proofs.Foreseeing.{avoider-by, avoiding-is, avoiding-not, heavy-fails}

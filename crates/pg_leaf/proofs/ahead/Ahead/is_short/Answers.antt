@@ -1,4 +1,4 @@
-use Rattle.std.proofs.Common.{◌≡◌, ◌∙◌, ◌≤◌, sym, ap, arith, leb}
+use Rattle.std.proofs.Common.{arith}
 use Rattle.std.proofs.lemmas.Bool.{leb-true}
 use Rattle.pg_leaf.proofs.Foreseeing.{no-pairs}
 use Rattle.pg_leaf.proofs.ahead.Ahead.is_short.Goals as goal

@@ -1,4 +1,4 @@
-use Rattle.std.proofs.Common.{◌∙◌, false, length, true, sym, ap}
+use Rattle.std.proofs.Common.{◌∙◌, length, sym, ap}
 use Rattle.pg_leaf.proofs.Common.{false≢true}
 use Rattle.pg_base.specs.Side.{is_same_side}
 use Rattle.pg_board.proofs.Judging.{degree-of, through-of}

@@ -1,6 +1,6 @@
 use Rattle.std.proofs.Common.{◌≡◌, ◌∙◌, Bool, true, false, sym, ap, subst}
-use Rattle.std.specs.Prelude.{Option, Some, None, IfSome}
-use Rattle.pg_leaf.proofs.Common.{Body, Side, Potential, answer_for, decided, defender, defends}
+use Rattle.std.specs.Prelude.{Some}
+use Rattle.pg_leaf.proofs.Common.{Side, Potential, answer_for, defender, defends}
 use Rattle.pg_leaf.proofs.Common.{pairs_exist}
 use Rattle.pg_leaf.specs.Leaf.{IsLeaf}
 use Rattle.pg_leaf.proofs.FirstCriterion.{by-none, by-potential, potential-leaf}

@@ -1,6 +1,6 @@
-use Rattle.std.proofs.Common.{◌≡◌, ◌∙◌, ◌+◌, ◌-◌, ◌*◌, ℕ, false, true, sym, ap, arith}
+use Rattle.std.proofs.Common.{◌∙◌, ◌+◌, ◌-◌, ◌*◌, ℕ, sym, ap, arith}
 use Rattle.pg_base.specs.Side.{is_same_side}
-use Rattle.pg_leaf.proofs.Foreseeing.{after-few, base-some, total-mine, total-yours}
+use Rattle.pg_leaf.proofs.Foreseeing.{after-few, total-mine, total-yours}
 use Rattle.pg_leaf.proofs.ahead.Ahead.total_after.Goals as goal
 
 pub overflow_sub-result : goal.overflow_sub-result

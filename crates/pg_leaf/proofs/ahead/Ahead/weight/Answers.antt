@@ -1,4 +1,4 @@
-use Rattle.std.proofs.Common.{◌≡◌, ◌+◌, ◌∙◌, true, false, sym, ap}
+use Rattle.std.proofs.Common.{◌≡◌, ◌+◌, ◌∙◌, sym, ap}
 use Rattle.pg_leaf.proofs.Common.{points_of}
 use Rattle.pg_base.specs.declared.side.Side.TheVariants.{Y}
 use Rattle.pg_game.specs.Potential.{point_weight}
