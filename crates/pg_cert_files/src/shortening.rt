@@ -51,7 +51,6 @@ fn has_either(points: &PointSet, pair: Pair) -> bool
 }
 
 /// What stands after the first words where these are pairs of which two share a point.
-#[tactic(auto, using(crate::proofs::PairWords::met_none, crate::proofs::PairWords::met_more, crate::proofs::PairWords::clash_met))]
 fn behind_clash(text: &[u8]) -> Option<&[u8]>
     ensures { IfSome result (λ others. EndsInClash text.now others.now) }
 {
@@ -135,7 +134,6 @@ pub fn spare(line: &[u8]) -> Option<Ends<'_>>
 
 impl LineReader {
     /// Leaves out of the line in hand what no certificate needs.
-    #[tactic(auto, using(crate::proofs::ShortTexts::stands_unchanged, crate::proofs::ShortTexts::stands_less))]
     fn shorten(&mut self, alloc: Global) -> Result<(), Memory>
         ensures count { self.new.count ≡ self.old.count }
         ensures fewer { length self.new.pending.items ≤ length self.old.pending.items }

@@ -139,6 +139,24 @@ one_digit text d some is e more space =
     number_space text 1 d
     (leads text 1 d one (lit< tt) (λ several. absurd (omega (arith, several)))) more space
 
+-- two digits with a space behind them
+pub two_digits : (text : Bytes) (a b : ℕ)
+    → 2 < length text
+    → is_ascii_digit (get_or text 0 0) ≡ true
+    → a ≡ get_or text 0 0 - 48
+    → is_ascii_digit (get_or text 1 0) ≡ true
+    → b ≡ get_or text 1 0 - 48
+    → get_or text 0 0 ≢ 48
+    → get_or text 2 0 ≡ 32
+    → IsFirstNumber text (a * 10 + b) (Some (take (length text - 3) (drop 3 text)))
+two_digits text a b more is_a a_is is_b b_is first space =
+    let grown = grows text 0 0 a (no_digit text) (lit< tt) (omega (arith, more)) is_a a_is in
+    let value : 0 * 10 + a ≡ a = omega arith in
+    let one : BeginsWith text 1 a = subst (λ (v : ℕ). BeginsWith text 1 v) value grown.1 in
+    let two = grows text 1 a b one (lit< tt) (omega (arith, more)) is_b b_is in
+    number_space text 2 (a * 10 + b)
+    (leads text 2 (a * 10 + b) two.1 (lit< tt) (λ several. first)) more space
+
 pub number_sign : (sign : ℕ) (text : Bytes) (count value : ℕ)
     → IsLeading text count value
     → count < length text

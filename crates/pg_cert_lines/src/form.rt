@@ -180,7 +180,6 @@ fn cut_near(sign: u8, text: &[u8]) -> Option<(&[u8], &[u8])>
 }
 
 /// What stands on both sides of the one sign, which may well be the second byte.
-#[tactic(auto, using(crate::proofs::NearCuts::two_none, crate::proofs::NearCuts::two_just, crate::proofs::NearCuts::two_many))]
 fn two_near(sign: u8, text: &[u8]) -> Option<(&[u8], &[u8])>
     ensures { option_map (λ p. (p.0.now, p.1.now)) result ≡ two_parts sign text.now }
 {
@@ -194,7 +193,6 @@ fn two_near(sign: u8, text: &[u8]) -> Option<(&[u8], &[u8])>
 }
 
 /// The four fields of a node line, of which the third has one byte or two.
-#[tactic(auto, using(crate::proofs::NearCuts::four_of_none, crate::proofs::NearCuts::four_of_one, crate::proofs::NearCuts::four_of_two, crate::proofs::NearCuts::four_of_three))]
 fn fields_of(line: &[u8]) -> Option<(&[u8], &[u8], &[u8], &[u8])>
     ensures { option_map (λ p. record {
       first = p.0.now;

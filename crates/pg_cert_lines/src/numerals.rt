@@ -84,13 +84,27 @@ fn first_digit(text: &[u8]) -> Option<(u32, &[u8])>
     Some((digit, &text[2..]))
 }
 
+/// The same where it is two digits.
+fn first_two_digits(text: &[u8]) -> Option<(u32, &[u8])>
+    ensures { IfSome result (λ p. IsFirstNumber text.now p.0 (Some p.1.now)) }
+{
+    if text.len() < 3 || text[2] != b' ' || text[0] == b'0' {
+        return None;
+    }
+    let tens = digit_of(text[0])?;
+    let ones = digit_of(text[1])?;
+    Some((tens * 10 + ones, &text[3..]))
+}
+
 /// The number of the first word, and the text of the other words if there are any.
-#[tactic(auto, using(crate::proofs::DigitRuns::number_whole, crate::proofs::DigitRuns::number_space))]
 pub(crate) fn first_number(text: &[u8]) -> Option<(u32, Option<&[u8]>)>
     ensures { IfSome result (λ p. IsFirstNumber text.now p.0 (option_map (λ w. w.now) p.1)) }
 {
     if let Some((digit, others)) = first_digit(text) {
         return Some((digit, Some(others)));
+    }
+    if let Some((number, others)) = first_two_digits(text) {
+        return Some((number, Some(others)));
     }
     let found = leading(text)?;
     if found.count == text.len() {

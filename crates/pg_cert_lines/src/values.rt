@@ -186,7 +186,6 @@ fn pairs_by_word(alloc: Global, words: Words) -> Result<Vec<Pair>, LineError<Fau
 
 /// The pairs that the words of the text say. Where one isn't a pair of points, its fault is found
 /// word by word.
-#[tactic(auto, using(crate::proofs::Outlines::reads_begin, crate::proofs::Outlines::reads_on, crate::proofs::Outlines::reads_end))]
 pub(crate) fn pairs(alloc: Global, text: Option<&[u8]>) -> Result<Vec<Pair>, LineError<Fault>>
     ensures { Gives (λ v. v.items) result
         (formed_each HYPHEN word_pair (words_of (option_map (λ w. w.now) text.entry))) }
@@ -233,7 +232,6 @@ fn replies_by_word(alloc: Global, words: Words) -> Result<Vec<Reply>, LineError<
 
 /// The replies that the words of the text say. Where one isn't a reply, its fault is found word by
 /// word.
-#[tactic(auto, using(crate::proofs::Outlines::reads_begin, crate::proofs::Outlines::reads_on, crate::proofs::Outlines::reads_end))]
 fn reply_list(alloc: Global, text: Option<&[u8]>) -> Result<Vec<Reply>, LineError<Fault>>
     ensures { Gives (λ v. v.items) result
         (formed_each COLON word_reply (words_of (option_map (λ w. w.now) text.entry))) }

@@ -59,7 +59,6 @@ fn as_points(alloc: Global, numbers: &[u32]) -> Result<Vec<u16>, AllocError>
 }
 
 /// The line of the numbers.
-#[tactic(auto, using(std::proofs::lemmas::List::Sorted::length_permutation, crate::proofs::SetLaws::sorted_is_ascending, crate::proofs::SetLaws::repeats_from_twice))]
 pub fn line_of(alloc: Global, numbers: &[u32]) -> Result<Line, Memory>
     requires below { IsTrue (list_all (λ n. nat_lt n MAX_MEMBERS) numbers.now) }
     requires different { repeats empty numbers.now ≡ false }

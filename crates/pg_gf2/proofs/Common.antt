@@ -24,6 +24,7 @@ pub use Rattle.pg_exchange.proofs.Tests.{emptied, of_either, of_outside, with_po
 pub use Rattle.pg_graph.proofs.Bases.{circuit_by, circuit_in}
 pub use Rattle.pg_graph.proofs.Swap.{IsBase-swap, spans_mono}
 pub use Rattle.pg_lehman.proofs.SpanClasses.{SpanSetsHold-class, SpanSetsHold-decided, elements-e}
+pub use Rattle.pg_switch.proofs.Finding.{first_below, none_below}
 pub use Rattle.std.proofs.Math.Path.{ap₂}
 pub use Rattle.std.proofs.lemmas.Bool.{and_from, and_parts, both_ways, cases_Bool, cases_eq}
 pub use Rattle.std.proofs.lemmas.Bool.{cases_lt, cond-false, cond-true, eq-eqb, false_from_ne_true}

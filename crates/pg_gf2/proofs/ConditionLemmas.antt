@@ -37,11 +37,6 @@ module _ (spans : (ℕ → Bool) → ℕ → Bool) (n : ℕ) (p : Position) wher
     second_joins = two n (plus_new (contains a1) n n refl);
   }
 
-  pub trees_apart : (a1 a2 : FinSet nat_cmp)
-      → AreSpanTrees spans n p a1 a2
-      → AreFreeOrE n p X a1 × AreFree n p a2 × ShareNone a1 a2
-  trees_apart a1 a2 t = (t.first_free, t.second_free, t.apart)
-
   pub trees_first : (a1 a2 : FinSet nat_cmp) → AreSpanTrees spans n p a1 a2 → SpansWith a1 a2
   trees_first a1 a2 t f h = elim (plus_cases (contains a2) n f h) [
     | inl k ↦ t.first f k
@@ -83,11 +78,6 @@ module _ (spans : (ℕ → Bool) → ℕ → Bool) (n : ℕ) (p : Position) wher
     second = λ f h. two f (plus_old (contains d1) n f h);
     second_parts = two n (plus_new (contains d1) n n refl);
   }
-
-  pub cuts_apart : (d1 d2 : FinSet nat_cmp)
-      → AreSpanCuts spans n p d1 d2
-      → AreFreeOrE n p Y d1 × AreFree n p d2 × ShareNone d1 d2
-  cuts_apart d1 d2 t = (t.first_free, t.second_free, t.apart)
 
   pub cuts_first : (d1 d2 : FinSet nat_cmp)
       → AreSpanCuts spans n p d1 d2

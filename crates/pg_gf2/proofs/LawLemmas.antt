@@ -2,7 +2,8 @@
 use Rattle.std.proofs.Common.{◌≡◌, ℕ, true, inl, inr, refl, sym, ap, ◌∙◌, subst, Option, Some, None}
 use Rattle.std.proofs.Common.{length, List, slice_get, unwrap_or, arith, zero, suc, [], ◌∷◌}
 use Rattle.pg_gf2.proofs.Common.{both_ways, cases_lt, FinSet, nat_cmp, Win, Side, X, Y, Body, Node}
-use Rattle.pg_gf2.proofs.Common.{Cert, Claim, Version, spans_mono, ForcesBy}
+use Rattle.pg_gf2.proofs.Common.{Cert, Claim, Version, spans_mono, ForcesBy, IsPlace, Position}
+use Rattle.pg_switch.specs.Claims.{AreSpanSets, IsMonotone}
 use Rattle.std.specs.Option.{is_some}
 use Rattle.pg_cert.specs.declared.node.Body.TheVariants as bodies
 use Rattle.pg_switch.proofs.SpanLaws.{ForcesBy-trees, ForcesBy-cuts}
@@ -12,7 +13,7 @@ use Rattle.pg_gf2.specs.declared.game.VecGame.{VecGame}
 use Rattle.pg_gf2.specs.Check.{flaw_number, names_sets, IsOfSide, HasTrees, HasCuts}
 use Rattle.pg_gf2.specs.Check.{IsVecClaimValid, IsVecValid, IsNodeFlaw, IsClaimFlaw}
 use Rattle.pg_gf2.specs.Check.{IsFirstVecFault}
-use Rattle.pg_gf2.specs.Classes.{with_target, vector_rules, at_turn, TreesAt, CutsAt}
+use Rattle.pg_gf2.specs.Classes.{with_target, vector_rules, at_turn}
 use Rattle.pg_gf2.specs.GroundLaws.{IsSpan-vectors}
 use Rattle.pg_gf2.specs.Vectors.{vector_spans}
 use Rattle.pg_gf2.proofs.ClassLemmas.{place}
@@ -22,23 +23,23 @@ none_there [] one none = absurd (let o : 0 ≡ 1 = one in omega (arith, o))
 none_there (node ∷ rest) one none = both_ways _ (ap is_some none) refl
 
 module _ (g : VecGame) where
-  pub trees_force : (turn : Side) (a1 a2 : FinSet nat_cmp)
-      → TreesAt g turn a1 a2
-      → ForcesBy (vector_rules g) (at_turn g turn) X Win
-  trees_force turn a1 a2 t =
-      ForcesBy-trees (vector_spans (with_target g)) (IsSpan-vectors (with_target g))
-      (length g.vectors) (λ set. vector_spans (with_target g) set (length g.vectors))
-      (λ a b w h. spans_mono (vector_spans (with_target g)) (IsSpan-vectors (with_target g)) a b
-      (length g.vectors) w h) (λ set small. refl) (at_turn g turn) a1 a2 (place g turn) t
+  pub more : IsMonotone (λ set. vector_spans (with_target g) set (length g.vectors))
+  more a b w h = spans_mono (vector_spans (with_target g)) (IsSpan-vectors (with_target g)) a b
+      (length g.vectors) w h
 
-  pub cuts_force : (turn : Side) (d1 d2 : FinSet nat_cmp)
-      → CutsAt g turn d1 d2
-      → ForcesBy (vector_rules g) (at_turn g turn) Y Win
-  cuts_force turn d1 d2 t =
+  -- trees force X's win, and cuts Y's
+  pub sets_force : (side : Side) (p : Position) (a1 a2 : FinSet nat_cmp)
+      → IsPlace (length g.vectors) p
+      → AreSpanSets (vector_spans (with_target g)) (length g.vectors) side p a1 a2
+      → ForcesBy (vector_rules g) p side Win
+  sets_force X p a1 a2 at t =
+      ForcesBy-trees (vector_spans (with_target g)) (IsSpan-vectors (with_target g))
+      (length g.vectors) (λ set. vector_spans (with_target g) set (length g.vectors)) more
+      (λ set small. refl) p a1 a2 at t
+  sets_force Y p a1 a2 at t =
       ForcesBy-cuts (vector_spans (with_target g)) (IsSpan-vectors (with_target g))
-      (length g.vectors) (λ set. vector_spans (with_target g) set (length g.vectors))
-      (λ a b w h. spans_mono (vector_spans (with_target g)) (IsSpan-vectors (with_target g)) a b
-      (length g.vectors) w h) (λ set small. refl) (at_turn g turn) d1 d2 (place g turn) t
+      (length g.vectors) (λ set. vector_spans (with_target g) set (length g.vectors)) more
+      (λ set small. refl) p a1 a2 at t
 
   -- the sets of a body force its side's win
   body_forces : (turn side : Side) (body : Body)
@@ -49,10 +50,10 @@ module _ (g : VecGame) where
       → ForcesBy (vector_rules g) (at_turn g turn) side Win
   body_forces turn side (bodies.Trees with_e first second) names own has cuts =
       subst (λ (s : Side). ForcesBy (vector_rules g) (at_turn g turn) s Win) (sym own)
-      (trees_force turn _ second has.1)
+      (sets_force X (at_turn g turn) _ second (place g turn) has.1)
   body_forces turn side (bodies.Cuts with_e first second) names own trees has =
       subst (λ (s : Side). ForcesBy (vector_rules g) (at_turn g turn) s Win) (sym own)
-      (cuts_force turn _ second has.1)
+      (sets_force Y (at_turn g turn) _ second (place g turn) has.1)
   body_forces turn side bodies.Over names own trees cuts = absurd (both_ways _ refl names)
   body_forces turn side (bodies.Move v j) names own trees cuts = absurd (both_ways _ refl names)
   body_forces turn side (bodies.All rs) names own trees cuts = absurd (both_ways _ refl names)

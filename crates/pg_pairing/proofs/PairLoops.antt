@@ -10,7 +10,8 @@ use Rattle.pg_pairing.proofs.Common.{Position, is_free, in_insert, Pair, Game, h
 use Rattle.pg_pairing.proofs.Common.{AreOpenPairs, SharesNone, IsInGame, HoldLines}
 use Rattle.pg_pairing.proofs.Common.{PairsHold, PairsLeaveNone, point_count}
 use Rattle.pg_pairing.proofs.Common.{AvoiderEnforcer, point_count-le}
-use Rattle.pg_pairing.proofs.Common.{All-weaker, false-at, list_any-none, list_any-one}
+use Rattle.pg_pairing.proofs.Common.{All-weaker, All-contains, false-at, list_any-none}
+use Rattle.pg_pairing.proofs.Common.{list_any-one, or_cases}
 use Rattle.pg_pairing.proofs.Common.{member-from_any, Side, list_any, Contains, take_more}
 use Rattle.pg_pairing.proofs.Common.{get_or_default, All-nil, All-push, All-get_or, Contains-get_or}
 use Rattle.pg_pairing.specs.Taking.{CanTake}
@@ -29,41 +30,34 @@ same_eq a b = elim (cases_eq a b) [
 ]
 
 -- one point after the other
-pub CanTake-iff : (points : ℕ) (p : Position) (taken middle : FinSet nat_cmp) (s : Pair)
-    (first second : Bool)
-    → first ≡ (nat_lt s.a points && (is_free p s.a && not (contains taken s.a)))
+pub CanTake-iff : (points : ℕ) (taken middle : FinSet nat_cmp) (s : Pair) (first second : Bool)
+    → first ≡ (nat_lt s.a points && not (contains taken s.a))
     → middle ≡ (if first then insert taken s.a else taken)
     → first ≡ true
-    → second ≡ (nat_lt s.b points && (is_free p s.b && not (contains middle s.b)))
-    → (IsTrue second → CanTake points p taken s) × (CanTake points p taken s → IsTrue second)
-CanTake-iff points p taken middle s first second is_first is_middle on is_second =
+    → second ≡ (nat_lt s.b points && not (contains middle s.b))
+    → (IsTrue second → CanTake points taken s) × (CanTake points taken s → IsTrue second)
+CanTake-iff points taken middle s first second is_first is_middle on is_second =
     let middle_is : middle ≡ insert taken s.a =
     is_middle ∙ ap (λ b. cond b (insert taken s.a) taken) on in
     let a_parts =
-    and_parts (nat_lt s.a points) (is_free p s.a && not (contains taken s.a)) (sym is_first ∙ on) in
-    let a_free = and_parts (is_free p s.a) (not (contains taken s.a)) a_parts.1 in
+    and_parts (nat_lt s.a points) (not (contains taken s.a)) (sym is_first ∙ on) in
     let in_middle : contains middle s.b ≡ (eqb s.b s.a || contains taken s.b) =
     ap (λ t. contains t s.b) middle_is ∙ in_insert taken s.a s.b in (
       λ yes_second.
-          let b_parts = and_parts (nat_lt s.b points) (is_free p s.b && not (contains middle s.b))
+          let b_parts = and_parts (nat_lt s.b points) (not (contains middle s.b))
           (sym is_second ∙ yes_second) in
-          let b_free = and_parts (is_free p s.b) (not (contains middle s.b)) b_parts.1 in
           let off =
-          or_parts (eqb s.b s.a) (contains taken s.b) (sym in_middle ∙ not-true _ b_free.1) in
+          or_parts (eqb s.b s.a) (contains taken s.b) (sym in_middle ∙ not-true _ b_parts.1) in
           record {
             a_range = ltb-true s.a points a_parts.0;
             b_range = ltb-true s.b points b_parts.0;
-            free = and_from _ _ a_free.0 b_free.0;
             different = λ e. false≢true (sym off.0 ∙ eq-eqb s.b s.a (sym e));
-            a_fresh = not-true _ a_free.1;
+            a_fresh = not-true _ a_parts.1;
             b_fresh = off.1;
           },
-      λ can.
-          let free = and_parts _ _ can.free in
-          is_second
-          ∙ and_from _ _ (lt-ltb s.b points can.b_range)
-          (and_from _ _ free.1 (not_from_false _
-          (in_middle ∙ or_from _ _ (ne_eqb s.b s.a (λ e. can.different (sym e))) can.b_fresh))),
+      λ can. is_second
+          ∙ and_from _ _ (lt-ltb s.b points can.b_range) (not_from_false _
+          (in_middle ∙ or_from _ _ (ne_eqb s.b s.a (λ e. can.different (sym e))) can.b_fresh)),
     )
 
 pub taken-both : (taken middle last : FinSet nat_cmp) (s : Pair) (first second : Bool)
@@ -89,15 +83,49 @@ AreOpenPairs-none g p = record {
   disjoint = λ i j d h k. absurd (omega arith);
 }
 
+-- the marks of both sides and the points of the pairs
+abbrev pub AreTaken : Position → List Pair → FinSet nat_cmp → Type 0
+AreTaken p xs taken = (q : ℕ)
+    → contains taken q ≡ ((contains p.x q || contains p.y q) || list_any (has_point q) xs)
+
+pub AreTaken-none : (p : Position) (taken : FinSet nat_cmp)
+    → ((q : ℕ) → contains taken q ≡ (contains p.x q || contains p.y q))
+    → AreTaken p [] taken
+AreTaken-none p taken marks q = marks q ∙ sym (or_false (contains p.x q || contains p.y q))
+  where
+    or_false : (b : Bool) → (b || false) ≡ b
+    or_false true = refl
+    or_false false = refl
+
+-- a point that isn't taken is free
+fresh-free : (p : Position) (xs : List Pair) (taken : FinSet nat_cmp) (v : ℕ)
+    → AreTaken p xs taken
+    → contains taken v ≡ false
+    → is_free p v ≡ true
+fresh-free p xs taken v is fresh =
+    let off = or_parts (contains p.x v || contains p.y v) (list_any (has_point v) xs)
+    (sym (is v) ∙ fresh) in
+    let marks = or_parts (contains p.x v) (contains p.y v) off.0 in
+    and_from _ _ (not_from_false _ marks.0) (not_from_false _ marks.1)
+
+-- a free point has no mark
+free-unmarked : (p : Position) (v : ℕ)
+    → is_free p v ≡ true
+    → (contains p.x v || contains p.y v) ≡ false
+free-unmarked p v free =
+    let both = and_parts (not (contains p.x v)) (not (contains p.y v)) free in
+    or_from _ _ (not-true _ both.0) (not-true _ both.1)
+
 -- a point that isn't taken is in no pair before
-fresh-apart : (xs : List Pair) (taken : FinSet nat_cmp) (v : ℕ)
-    → ((q : ℕ) → contains taken q ≡ list_any (has_point q) xs)
+fresh-apart : (p : Position) (xs : List Pair) (taken : FinSet nat_cmp) (v : ℕ)
+    → AreTaken p xs taken
     → contains taken v ≡ false
     → (t : Pair) → Contains xs t
     → (t.a ≢ v) × (t.b ≢ v)
-fresh-apart xs taken v is fresh t c =
-    let off =
-    or_parts (eqb t.a v) (eqb t.b v) (false-at (has_point v) xs t (sym (is v) ∙ fresh) c) in
+fresh-apart p xs taken v is fresh t c =
+    let none = or_parts (contains p.x v || contains p.y v) (list_any (has_point v) xs)
+    (sym (is v) ∙ fresh) in
+    let off = or_parts (eqb t.a v) (eqb t.b v) (false-at (has_point v) xs t none.1 c) in
     (λ e. false≢true (sym off.0 ∙ eq-eqb t.a v e), λ e. false≢true (sym off.1 ∙ eq-eqb t.b v e))
 
 take-next : (xs : List Pair) (i : ℕ) (d : Pair)
@@ -110,8 +138,8 @@ pub AreOpenPairs-more : (g : Game) (p : Position) (xs : List Pair) (i : ℕ) (d 
     → i < length xs
     → AreOpenPairs g p (take i xs)
     → points ≡ point_count g
-    → ((q : ℕ) → contains taken q ≡ list_any (has_point q) (take i xs))
-    → CanTake points p taken (get_or xs i d)
+    → AreTaken p (take i xs) taken
+    → CanTake points taken (get_or xs i d)
     → AreOpenPairs g p (take (i + 1) xs)
 AreOpenPairs-more g p xs i d points taken h before count is can =
     let s = get_or xs i d in
@@ -120,54 +148,87 @@ AreOpenPairs-more g p xs i d points taken h before count is can =
         subst (λ (n : ℕ). s.a < n) count can.a_range,
         subst (λ (n : ℕ). s.b < n) count can.b_range,
       );
-      free = All-push (λ s. is_open p s ≡ true) (take i xs) s before.free can.free;
+      free = All-push (λ s. is_open p s ≡ true) (take i xs) s before.free (and_from _ _
+          (fresh-free p (take i xs) taken s.a is can.a_fresh)
+          (fresh-free p (take i xs) taken s.b is can.b_fresh));
       different = All-push (λ s. s.a ≢ s.b) (take i xs) s before.different can.different;
       disjoint = all_pairs_push SharesNone (take i xs) s before.disjoint (λ k e lt.
           let member = Contains-get_or (take i xs) k e lt in
           let a =
-          fresh-apart (take i xs) taken s.a is can.a_fresh (get_or (take i xs) k e) member in
+          fresh-apart p (take i xs) taken s.a is can.a_fresh (get_or (take i xs) k e) member in
           let b =
-          fresh-apart (take i xs) taken s.b is can.b_fresh (get_or (take i xs) k e) member in
+          fresh-apart p (take i xs) taken s.b is can.b_fresh (get_or (take i xs) k e) member in
           record { aa = a.0; ab = b.0; ba = a.1; bb = b.1 });
     })
 
-pub taken-more : (xs : List Pair) (i : ℕ) (d : Pair) (taken next : FinSet nat_cmp)
+pub taken-more : (p : Position) (xs : List Pair) (i : ℕ) (d : Pair) (taken next : FinSet nat_cmp)
     → i < length xs
-    → ((q : ℕ) → contains taken q ≡ list_any (has_point q) (take i xs))
+    → AreTaken p (take i xs) taken
     → ((q : ℕ) → contains next q ≡ (has_point q (get_or xs i d) || contains taken q))
-    → (q : ℕ) → contains next q ≡ list_any (has_point q) (take (i + 1) xs)
-taken-more xs i d taken next h is more q = more q
-    ∙ or_comm (has_point q (get_or xs i d)) (contains taken q)
-    ∙ ap (λ b. b || has_point q (get_or xs i d)) (is q)
-    ∙ sym (list_any_more (has_point q) xs i d h)
+    → AreTaken p (take (i + 1) xs) next
+taken-more p xs i d taken next h is more q = more q
+    ∙ ap (λ b. has_point q (get_or xs i d) || b) (is q)
+    ∙ or_last (has_point q (get_or xs i d)) (contains p.x q || contains p.y q)
+    (list_any (has_point q) (take i xs))
+    ∙ ap (λ b. (contains p.x q || contains p.y q) || b) (sym (list_any_more (has_point q) xs i d h))
   where
-    or_comm : (a b : Bool) → (a || b) ≡ (b || a)
-    or_comm true true = refl
-    or_comm true false = refl
-    or_comm false true = refl
-    or_comm false false = refl
+    or_last : (a b c : Bool) → (a || (b || c)) ≡ (b || (c || a))
+    or_last true true c = refl
+    or_last true false true = refl
+    or_last true false false = refl
+    or_last false b c = or_end b c
+      where
+        or_end : (m n : Bool) → (m || n) ≡ (m || (n || false))
+        or_end true n = refl
+        or_end false true = refl
+        or_end false false = refl
+
+-- what isn't marked of what is taken are the points of the pairs, which are free
+pub paired-is : (g : Game) (p : Position) (xs : List Pair) (taken : FinSet nat_cmp) (q : ℕ)
+    (marked : Bool)
+    → AreOpenPairs g p xs
+    → AreTaken p xs taken
+    → marked ≡ (contains p.x q || contains p.y q)
+    → (contains taken q && not marked) ≡ list_any (has_point q) xs
+paired-is g p xs taken q marked pairs is same = rw (is q, same)
+    (unmarked (contains p.x q || contains p.y q) (list_any (has_point q) xs) (λ on.
+    let found = member-from_any (has_point q) xs on in
+    let free = All-contains (λ s. is_open p s ≡ true) xs found.0 pairs.free found.1 in
+    let both = and_parts (is_free p found.0.a) (is_free p found.0.b) free in
+    free-unmarked p q (elim (or_cases (eqb found.0.a q) (eqb found.0.b q) found.2) [
+      | inl a ↦ subst (λ (n : ℕ). is_free p n ≡ true) (eqb-true found.0.a q a) both.0
+      | inr b ↦ subst (λ (n : ℕ). is_free p n ≡ true) (eqb-true found.0.b q b) both.1
+    ])))
+  where
+    unmarked : (m a : Bool) → (a ≡ true → m ≡ false) → ((m || a) && not m) ≡ a
+    unmarked true true off = absurd (false≢true (sym (off refl)))
+    unmarked true false off = refl
+    unmarked false true off = refl
+    unmarked false false off = refl
 
 pub CanTake-at : (g : Game) (p : Position) (xs : List Pair) (i : ℕ) (d : Pair) (points : ℕ)
     (taken : FinSet nat_cmp)
     → i < length xs
     → AreOpenPairs g p xs
     → points ≡ point_count g
-    → ((q : ℕ) → contains taken q ≡ list_any (has_point q) (take i xs))
-    → CanTake points p taken (get_or xs i d)
+    → AreTaken p (take i xs) taken
+    → CanTake points taken (get_or xs i d)
 CanTake-at g p xs i d points taken h pairs count is =
     let s = get_or xs i d in
     let range = All-get_or (IsInGame g) xs i d h pairs.range in
+    let free = and_parts _ _ (All-get_or (λ s. is_open p s ≡ true) xs i d h pairs.free) in
     record {
       a_range = subst (λ (n : ℕ). s.a < n) (sym count) range.0;
       b_range = subst (λ (n : ℕ). s.b < n) (sym count) range.1;
-      free = All-get_or (λ s. is_open p s ≡ true) xs i d h pairs.free;
       different = All-get_or (λ s. s.a ≢ s.b) xs i d h pairs.different;
       a_fresh = is s.a
-          ∙ list_any-none (has_point s.a) (take i xs) (λ t c. let out = earlier t c in or_from _ _
-          (ne_eqb t.a s.a out.aa) (ne_eqb t.b s.a out.ba));
+          ∙ or_from _ _ (free-unmarked p s.a free.0)
+          (list_any-none (has_point s.a) (take i xs) (λ t c. let out = earlier t c in or_from _ _
+          (ne_eqb t.a s.a out.aa) (ne_eqb t.b s.a out.ba)));
       b_fresh = is s.b
-          ∙ list_any-none (has_point s.b) (take i xs) (λ t c. let out = earlier t c in or_from _ _
-          (ne_eqb t.a s.b out.ab) (ne_eqb t.b s.b out.bb));
+          ∙ or_from _ _ (free-unmarked p s.b free.1)
+          (list_any-none (has_point s.b) (take i xs) (λ t c. let out = earlier t c in or_from _ _
+          (ne_eqb t.a s.b out.ab) (ne_eqb t.b s.b out.bb)));
     }
   where
     earlier : (t : Pair) → Contains (take i xs) t → SharesNone t (get_or xs i d)

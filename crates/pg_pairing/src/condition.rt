@@ -12,14 +12,13 @@ use crate::partners::{is_safe, partners_of};
 use pg_base::{Kind, MAX_MEMBERS, Pair, PointSet, Side};
 use pg_game::{Game, Position, breaker_of};
 
-/// Puts a free point of the game that isn't taken to those that are, and tells whether it could.
-fn take(points: u16, p: &Position, taken: &mut PointSet, v: u16) -> bool
+/// Puts a point of the game that isn't taken to those that are, and tells whether it could.
+fn take(points: u16, taken: &mut PointSet, v: u16) -> bool
     requires { points ≤ MAX_MEMBERS }
-    ensures free { result
-        ≡ (nat_lt v points && (is_free p.now v && not (set.contains taken.old v))) }
+    ensures free { result ≡ (nat_lt v points && not (set.contains taken.old v)) }
     ensures taken { taken.new ≡ (if result then set.insert taken.old v else taken.old) }
 {
-    if v < points && p.is_free(v) && !taken.has(v) {
+    if v < points && !taken.has(v) {
         taken.put(v);
         true
     } else {
@@ -28,29 +27,31 @@ fn take(points: u16, p: &Position, taken: &mut PointSet, v: u16) -> bool
 }
 
 /// Puts both points of the pair to those that are taken, and tells whether it could.
-fn take_pair(points: u16, p: &Position, taken: &mut PointSet, s: Pair) -> bool
+fn take_pair(points: u16, taken: &mut PointSet, s: Pair) -> bool
     requires { points ≤ MAX_MEMBERS }
-    ensures fits { IsTrue result ↔ CanTake points p.now taken.old s }
+    ensures fits { IsTrue result ↔ CanTake points taken.old s }
     ensures taken { IsTrue result
         → (q : ℕ) → set.contains taken.new q ≡ (has_point q s || set.contains taken.old q) }
 {
-    take(points, p, taken, s.a) && take(points, p, taken, s.b)
+    take(points, taken, s.a) && take(points, taken, s.b)
 }
 
-/// The points of the pairs, where these are of free points of the game, all different.
+/// The points of the pairs, where these are of free points of the game, all different. The marks of
+/// both sides count as taken from the beginning, so that each point is looked up once.
 pub(crate) fn paired_points(g: &Game, p: &Position, pairs: &[Pair]) -> Option<PointSet>
     ensures open { IsSome result ↔ AreOpenPairs g.now p.now pairs.now }
     ensures points { IfSome result
         (λ paired. (q : ℕ) → set.contains paired q ≡ is_paired pairs.now q) }
 {
     let points = g.points();
-    let mut taken = PointSet::empty();
+    let marked = p.x.union(&p.y);
+    let mut taken = marked;
     for s in pairs {
-        if !take_pair(points, p, &mut taken, *s) {
+        if !take_pair(points, &mut taken, *s) {
             return None;
         }
     }
-    Some(taken)
+    Some(taken.without(&marked))
 }
 
 /// Whether the point is free and not in the set.

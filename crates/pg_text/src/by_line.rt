@@ -50,7 +50,6 @@ impl<'a> Iterator for Lines<'a> {
 }
 
 /// The first line, and the text after its line feed; none of a text without bytes.
-#[tactic(auto, using(crate::proofs::FirstLine::no_lines, crate::proofs::FirstLine::last_line, crate::proofs::FirstLine::lines_feed))]
 fn first_line(text: &[u8]) -> Option<(&[u8], &[u8])>
     ensures first { IfSome result (λ p. lines text.now ≡ p.0.now ∷ lines p.1.now) }
     ensures none { IfNone result (lines text.now ≡ []) }

@@ -26,7 +26,6 @@ pub fn cut_at(sign: u8, text: &[u8]) -> Option<(&[u8], &[u8])>
 }
 
 /// What stands on both sides of the one sign.
-#[tactic(auto, using(crate::proofs::Cuts::no_parts, crate::proofs::Cuts::just_two, crate::proofs::Cuts::too_many))]
 pub fn two_parts(sign: u8, text: &[u8]) -> Option<(&[u8], &[u8])>
     ensures { option_map (λ p. (p.0.now, p.1.now)) result ≡ two_parts sign text.now }
 {
@@ -40,7 +39,6 @@ pub fn two_parts(sign: u8, text: &[u8]) -> Option<(&[u8], &[u8])>
 }
 
 /// What stands around the three signs.
-#[tactic(auto, using(crate::proofs::Cuts::four_none, crate::proofs::Cuts::four_one, crate::proofs::Cuts::four_two, crate::proofs::Cuts::four_three))]
 pub fn four_parts(sign: u8, text: &[u8]) -> Option<(&[u8], &[u8], &[u8], &[u8])>
     ensures { option_map (λ p. record {
       first = p.0.now;

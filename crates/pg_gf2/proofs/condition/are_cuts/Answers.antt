@@ -26,9 +26,6 @@ are_bridges-requires-clause-bridges c =
     c.without-parted.result c.with_point.ensures
     (of_outside c.with_point.result d1 c.without-parted.result
     c.without-parted.ensures.difference) in
-    let left = left_is g turn vs c.requires e is_e c.kept-left.result c.without.result d1
-    (c.kept-left.ensures turn)
-    (of_outside c.kept-left.result d1 c.without.result c.without.ensures.difference) in
     within_list g turn vs c.requires e is_e c.without-parted.result (parted spans n p d1 d2) bridges
     (parted_below spans n p g.fits.y_range d1 d2 apart.1)
 
@@ -67,7 +64,6 @@ returns-then-not-branch c =
     let spans = vector_spans (with_target g) in
     let n = length g.vectors in
     let p = at_turn g turn in
-    let apart = c.are_apart.ensures.0 c.if-not-are_apart.false in
     let bridges = parted_is g turn vs c.requires e is_e d1 d2 c.with_point.result
     c.without-parted.result c.with_point.ensures
     (of_outside c.with_point.result d1 c.without-parted.result
@@ -88,25 +84,14 @@ are_bridges-requires-2-clause-bridges c =
     let turn = c.args.turn in
     let vs = c.args.vectors.now in
     let d1 = c.args.first.now in
-    let d2 = c.args.second.now in
     let e = c.number_of_e-e.result in
     let is_e = c.number_of_e-e.ensures.number in
     let spans = vector_spans (with_target g) in
     let n = length g.vectors in
     let p = at_turn g turn in
     let apart = c.are_apart.ensures.0 c.if-not-are_apart.false in
-    let bridges = parted_is g turn vs c.requires e is_e d1 d2 c.with_point.result
-    c.without-parted.result c.with_point.ensures
-    (of_outside c.with_point.result d1 c.without-parted.result
-    c.without-parted.ensures.difference) in
-    let left = left_is g turn vs c.requires e is_e c.kept-left.result c.without.result d1
-    (c.kept-left.ensures turn)
-    (of_outside c.kept-left.result d1 c.without.result c.without.ensures.difference) in
     let others =
     with_e_is g turn vs c.requires e is_e d1 c.with_point-2.result c.with_point-2.ensures in
-    let rest = left_is g turn vs c.requires e is_e c.kept-left.result c.without-2.result d2
-    (c.kept-left.ensures turn)
-    (of_outside c.kept-left.result d2 c.without-2.result c.without-2.ensures.difference) in
     within_list g turn vs c.requires e is_e c.with_point-2.result _ others
     (first_below spans n p Y d1 apart.0)
 
@@ -123,13 +108,6 @@ are_bridges-requires-2-clause-within c =
     let n = length g.vectors in
     let p = at_turn g turn in
     let apart = c.are_apart.ensures.0 c.if-not-are_apart.false in
-    let bridges = parted_is g turn vs c.requires e is_e d1 d2 c.with_point.result
-    c.without-parted.result c.with_point.ensures
-    (of_outside c.with_point.result d1 c.without-parted.result
-    c.without-parted.ensures.difference) in
-    let left = left_is g turn vs c.requires e is_e c.kept-left.result c.without.result d1
-    (c.kept-left.ensures turn)
-    (of_outside c.kept-left.result d1 c.without.result c.without.ensures.difference) in
     let others =
     with_e_is g turn vs c.requires e is_e d1 c.with_point-2.result c.with_point-2.ensures in
     let rest = left_is g turn vs c.requires e is_e c.kept-left.result c.without-2.result d2

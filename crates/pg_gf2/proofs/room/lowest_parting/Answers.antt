@@ -1,8 +1,7 @@
 use Rattle.std.proofs.Common.{◌≡◌, ◌&&◌, not, ℕ, Bool, false, arith, sym, ap, ◌∙◌}
 use Rattle.pg_gf2.proofs.Common.{both_ways, and_parts, and_from, false_from_ne_true, not-true}
-use Rattle.pg_gf2.proofs.Common.{not_from_false, contains, minus}
+use Rattle.pg_gf2.proofs.Common.{not_from_false, contains, minus, first_below, none_below}
 use Rattle.pg_gf2.specs.Vectors.{vector_spans}
-use Rattle.pg_gf2.proofs.Lowest.{first_below, none_below}
 use Rattle.pg_gf2.proofs.room.lowest_parting.Goals as goal
 
 pub returns-then-not-spans-clause-lowest : goal.returns-then-not-spans-clause-lowest

@@ -1,12 +1,11 @@
 use Rattle.std.proofs.Common.{◌≡◌, ◌&&◌, not, ℕ, true, false, List, length, arith, inl, inr, sym}
 use Rattle.std.proofs.Common.{ap, ◌∙◌, subst}
 use Rattle.pg_gf2.proofs.Common.{both_ways, cases_eq, and_parts, and_from, false_from_ne_true}
-use Rattle.pg_gf2.proofs.Common.{not-true, not_from_false, contains}
+use Rattle.pg_gf2.proofs.Common.{not-true, not_from_false, contains, first_below, none_below}
 use Rattle.pg_gf2.specs.declared.row.Row.{Row}
 use Rattle.pg_gf2.specs.Vectors.{vector_at, vector_spans}
 use Rattle.pg_gf2.specs.Rows.{reduced}
 use Rattle.pg_gf2.proofs.RowLemmas.{told_whole}
-use Rattle.pg_gf2.proofs.Lowest.{first_below, none_below}
 use Rattle.pg_gf2.proofs.SpanTests.{left_zero, left_some}
 use Rattle.pg_gf2.proofs.room.lowest_unspanned.Goals as goal
 use Rattle.pg_gf2.proofs.room.lowest_unspanned.Goals.{then-has+else-left-ne0, else-has}

@@ -2,7 +2,7 @@ use Rattle.pg_pairing.proofs.PairLoops.{CanTake-iff, taken-both}
 use Rattle.pg_pairing.proofs.condition.take_pair.Goals as goal
 
 pub returns-then-take-clause-fits : goal.returns-then-take-clause-fits
-returns-then-take-clause-fits c = CanTake-iff c.args.points c.args.p.now c.args.taken.now
+returns-then-take-clause-fits c = CanTake-iff c.args.points c.args.taken.now
     c.take.new.taken c.args.s c.take.result c.take-then-take.result c.take.ensures.free
     c.take.ensures.taken c.if-take.true c.take-then-take.ensures.free
 

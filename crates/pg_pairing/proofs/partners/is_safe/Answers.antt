@@ -1,4 +1,4 @@
-use Rattle.std.proofs.Common.{◌≡◌, ◌+◌, ◌<◌, ◌≤◌, ◌∙◌, ℕ, List, true, false, length, get_or, refl}
+use Rattle.std.proofs.Common.{◌≡◌, ◌+◌, ◌<◌, ◌≤◌, ◌∙◌, ℕ, List, length, get_or, refl}
 use Rattle.std.proofs.Common.{sym, ap, subst}
 use Rattle.pg_pairing.proofs.Common.{false≢true, contains, contains-empty, insert, nat_cmp}
 use Rattle.pg_pairing.proofs.PartnerSteps.{passed-none, passed-more, touched-at, holds-at}
