@@ -6,12 +6,11 @@ use Rattle.std.specs.Prelude.{is_some}
 use Rattle.pg_check.proofs.Common.{slice_get_within, Game, Position, length-append, position_of}
 use Rattle.pg_check.proofs.Common.{fault_number, IsSound, IsFirstFault, AreSoundBefore, IsValid}
 use Rattle.pg_check.proofs.Common.{IsValidClaim, Cert, Claim, Node, NodeFault, IsWithinLimits}
-use Rattle.pg_check.proofs.Common.{IsNode, all_parts, parts_of, Part}
+use Rattle.pg_check.proofs.Common.{IsNode, all_parts, parts_of, Part, kept, AreMarksOf}
 use Rattle.pg_check.specs.Checking.{AreValidBefore, IsInHand, AreNext, Stands, StandsFor}
 use Rattle.pg_check.specs.Tester.{IsReadyFor}
 use Rattle.pg_check.specs.declared.checking.Checking.{Checking}
 use Rattle.pg_check.specs.declared.checking.Rejected.{Rejected}
-use Rattle.pg_check.specs.Marks.{kept, AreMarksOf}
 use Rattle.pg_check.specs.Present.{IsSoundSoFar, IsLeastSoFar, IsKnownOf}
 use Rattle.pg_cert.specs.declared.part.Part.TheVariants as parts
 use Rattle.pg_check.specs.declared.present.Present.{Present}

@@ -24,7 +24,7 @@ use Rattle.pg_game.proofs.FreePoints.{any-free_points}
 use Rattle.pg_pairing.proofs.PairLaws.{Forces-pairs_breaker, Forces-pairs_draw}
 use Rattle.pg_pairing.proofs.PairLaws.{Forces-pairs_avoider}
 use Rattle.pg_potential.proofs.PotentialLaws.{Forces-potential_breaker, Forces-potential_draw}
-use Rattle.pg_avoider.proofs.AvoiderLaws.{Forces-avoider}
+use Rattle.pg_potential.proofs.AvoiderLaws.{Forces-avoider}
 use Rattle.pg_switch.proofs.SwitchLaws.{Forces-trees, Forces-cuts}
 use Rattle.pg_game.proofs.NoWorse.{Forces-no_worse}
 use Rattle.pg_cert.specs.declared.node.Body.TheVariants.{All}

@@ -6,8 +6,8 @@ use Rattle.std.proofs.lemmas.Nat.{le_or_l, le_or_r}
 use Rattle.pg_check.proofs.Common.{AreBelow, AreWithin, FinSet, Game, cases_eq, ltb-true}
 use Rattle.pg_check.proofs.Common.{nat_cmp, point_count, words_of}
 use Rattle.pg_check.specs.Tester.{AreInside, ArePointsOf}
-use Rattle.pg_check.proofs.FlatMarks.{fit-set}
-use Rattle.pg_check.proofs.RowsWithin.{members-words, within-from_rows, row-from_within}
+use Rattle.pg_potential.proofs.FlatMarks.{fit-set}
+use Rattle.pg_potential.proofs.RowsWithin.{members-words, within-from_rows, row-from_within}
 
 -- a word has no bit where both parts have none
 or-zero : (a b : ℕ) → bit_or a b ≡ 0 → (a ≡ 0) × (b ≡ 0)

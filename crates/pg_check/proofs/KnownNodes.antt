@@ -9,10 +9,9 @@ use Rattle.pg_check.proofs.Common.{Over, Move, Pairs, Potential, Trees, Cuts, Th
 use Rattle.pg_check.proofs.Common.{NodeFault, position_of, fault_number, is_allowed, IsNodeOf}
 use Rattle.pg_check.proofs.Common.{NamesEarlier, Owes, HasTurn, TakesFree, EndsRight, HasPairs}
 use Rattle.pg_check.proofs.Common.{HasPotential, HasTrees, HasCuts, HasThreat, FollowsMove}
-use Rattle.pg_check.proofs.Common.{FollowMoves, HasWeaker, Passes, IsSound, IsLeastFault}
+use Rattle.pg_check.proofs.Common.{FollowMoves, HasWeaker, Passes, IsSound, IsLeastFault, kept}
 use Rattle.pg_cert.specs.declared.node.Body.TheVariants.{All}
 use Rattle.pg_cert.specs.declared.node_fault.NodeFault.TheVariants as faults
-use Rattle.pg_check.specs.Marks.{kept}
 use Rattle.pg_check.specs.declared.present.Present.{Present}
 use Rattle.pg_check.specs.Present.{bare, known, PassesSoFar, IsSoundSoFar, IsLeastSoFar, IsKnownOf}
 

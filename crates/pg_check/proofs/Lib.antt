@@ -1,6 +1,5 @@
 mod Common
 mod ReplyLemmas
-mod LineMasks
 mod NamedEdges
 pub mod ClaimLemmas
 pub mod ForcedNodes
@@ -11,10 +10,6 @@ mod SoundNodes
 mod PartSteps
 mod CheckingSteps
 mod TakenParts
-mod FlatMarks
-mod RowsWithin
-mod RowsApart
-mod MaskWeights
 mod GamePoints
 mod RoundSteps
 mod RoundLaws

@@ -1,8 +1,8 @@
 -- Replies against the free points, one after the other.
 use Rattle.std.proofs.Common.{◌≡◌, ◌≢◌, ℕ, suc, ◌+◌, ◌-◌, ◌<◌, ◌≤◌, true, false, List, [], ◌∷◌, map}
-use Rattle.std.proofs.Common.{length, get_or, drop, refl, sym, ap, subst, inl, inr, ◌∙◌, arith}
+use Rattle.std.proofs.Common.{length, get_or, drop, refl, sym, ap, ◌∙◌, arith}
 use Rattle.std.proofs.Common.{drop-cons}
-use Rattle.pg_check.proofs.Common.{filter, range_with_len, cases_eq, drop_all, get_or_default, Game}
+use Rattle.pg_check.proofs.Common.{filter, range_with_len, drop_all, Game}
 use Rattle.pg_check.proofs.Common.{Position, is_free, point_count, free_points, Reply}
 
 -- the points of the replies from a place on
@@ -89,16 +89,3 @@ other_head x y xs ys us vs ea eb ne e =
 
 pub no_head : (y : ℕ) (ys us vs : List ℕ) → us ≡ [] → vs ≡ y ∷ ys → us ≡ vs → ⊥
 no_head y ys us vs ea eb e = let f : [] ≡ y ∷ ys = sym ea ∙ e ∙ eb in cc
-
--- what holds of each member before a place, and of the one there
-pub each-more : {A : Type 0} (P : A → Type 0) (xs : List A) (i : ℕ) (x : A)
-    → i < length xs
-    → x ≡ get_or xs i x
-    → P x
-    → ((j : ℕ) (d : A) → j < i → P (get_or xs j d))
-    → (j : ℕ) (d : A) → j < i + 1
-    → P (get_or xs j d)
-each-more P xs i x lt is here before j d below = elim (cases_eq j i) [
-  | inl e ↦ subst P (is ∙ get_or_default xs i x d lt ∙ ap (λ n. get_or xs n d) (sym e)) here
-  | inr ne ↦ before j d (omega (arith, below, ne))
-]

@@ -3,9 +3,8 @@ use Rattle.std.specs.Prelude.{◌≡◌, ℕ, ◌+◌, ◌<◌, ◌≤◌, List,
 use Rattle.std.specs.Prelude.{Option, Some, None, Result, Ok, Err}
 use Rattle.pg_check.specs.Prelude.{Game, IsWithinLimits, all_parts, parts_of, BeginCert}
 use Rattle.pg_check.specs.Prelude.{AreSoundBefore, IsFirstFault, IsValid, IsValidClaim, Cert, Claim}
-use Rattle.pg_check.specs.Prelude.{Part}
+use Rattle.pg_check.specs.Prelude.{Part, kept, AreMarksOf}
 use Rattle.pg_cert.specs.declared.part.Part.TheVariants as parts
-use Rattle.pg_check.specs.Marks.{kept, AreMarksOf}
 use Rattle.pg_check.specs.Present.{IsKnownOf}
 use Rattle.pg_check.specs.Tester.{IsReadyFor}
 use Rattle.pg_check.specs.declared.checking.Checking.{Checking}

@@ -1,10 +1,7 @@
 -- What the definitions of this crate name of std and of the crates below.
 pub use Rattle.pg_base.specs.Points.{AreBelow, AreWithin, ShareNone}
-pub use Rattle.pg_base.specs.Side.{is_same_side, other}
-pub use Rattle.pg_base.specs.WordLemmas.{has_bit-at, in_members_below, members-of_words}
-pub use Rattle.pg_base.specs.WordLemmas.{members-same, word_below-lt, word_of-members}
-pub use Rattle.pg_base.specs.Words.{has_bit, members_below}
-unfoldable pub use Rattle.pg_base.specs.Words.{word_of, words_of}
+pub use Rattle.pg_base.specs.Side.{other}
+unfoldable pub use Rattle.pg_base.specs.Words.{words_of}
 pub use Rattle.pg_base.specs.declared.goal.Goal.{Goal}
 pub use Rattle.pg_base.specs.declared.kind.Kind.{Kind}
 pub use Rattle.pg_base.specs.declared.kind.Kind.TheVariants.{AvoiderEnforcer, MakerBreaker}
@@ -31,11 +28,11 @@ pub use Rattle.pg_cert.specs.declared.node.Node.{Node}
 pub use Rattle.pg_cert.specs.declared.node_fault.NodeFault.{NodeFault}
 pub use Rattle.pg_cert.specs.declared.part.Part.{Part}
 pub use Rattle.pg_cert.specs.declared.reply.Reply.{Reply}
-pub use Rattle.pg_game.specs.Game.{IsPosition, after, has_filled, is_filled, is_full, is_over}
-pub use Rattle.pg_game.specs.Game.{is_touched, lines_of, outcome, point_count, with_turn}
+pub use Rattle.pg_game.specs.Game.{IsPosition, after, has_filled, is_filled, is_over, lines_of}
+pub use Rattle.pg_game.specs.Game.{outcome, point_count, with_turn}
 unfoldable pub use Rattle.pg_game.specs.Game.{free_points}
 pub use Rattle.pg_game.specs.Judge.{IsMadeForGame, room_of}
-pub use Rattle.pg_game.specs.Position.{is_free, left_after, points_of, turn_after, x_after, y_after}
+pub use Rattle.pg_game.specs.Position.{is_free, points_of, x_after, y_after}
 pub use Rattle.pg_game.specs.Potential.{is_on}
 pub use Rattle.pg_game.specs.Threat.{Filling, Forcing, IsAttack, IsThreatLine, LeadsToLine}
 pub use Rattle.pg_game.specs.Threat.{has_threat, is_near, may_attack, threatens}
@@ -44,7 +41,10 @@ pub use Rattle.pg_game.specs.Value.{Forces, reaches}
 pub use Rattle.pg_game.specs.Weaker.{IsNoWorse}
 pub use Rattle.pg_game.specs.declared.game.Game.{Game}
 pub use Rattle.pg_game.specs.declared.position.Position.{Position}
-pub use Rattle.std.specs.FinSet.{FinSet, contains, from_list, insert}
+pub use Rattle.pg_potential.specs.Marks.{AreFlat, AreMarksOf}
+unfoldable pub use Rattle.pg_potential.specs.Marks.{kept}
+pub use Rattle.pg_potential.specs.Masks.{AreMasksOf}
+pub use Rattle.std.specs.FinSet.{FinSet, contains, insert}
 pub use Rattle.std.specs.List.{All, Contains, count_by, filter, list_all, list_any, range_with_len}
 pub use Rattle.std.specs.Option.{is_some}
 pub use Rattle.std.specs.Ordering.{nat_cmp}

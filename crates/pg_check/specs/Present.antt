@@ -4,9 +4,8 @@ use Rattle.std.specs.Prelude.{◌≡◌, ℕ, ◌+◌, ◌<◌, ◌≤◌, lengt
 use Rattle.pg_check.specs.Prelude.{ShareNone, Game, Position, with_turn, Claim, Node, Over}
 use Rattle.pg_check.specs.Prelude.{NodeFault, position_of, fault_number, Passes, Body}
 use Rattle.pg_check.specs.Prelude.{HasTurn, TakesFree, FollowMoves, EndsRight, HasPairs}
-use Rattle.pg_check.specs.Prelude.{HasPotential, HasTrees, HasCuts, HasThreat, HasWeaker}
+use Rattle.pg_check.specs.Prelude.{HasPotential, HasTrees, HasCuts, HasThreat, HasWeaker, kept}
 use Rattle.pg_cert.specs.declared.node_fault.NodeFault.TheVariants as faults
-use Rattle.pg_check.specs.Marks.{kept}
 use Rattle.pg_check.specs.declared.present.Present.{Present}
 
 -- a node of which no more than its position is known

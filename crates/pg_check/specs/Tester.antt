@@ -2,8 +2,7 @@
 use Rattle.std.specs.Prelude.{◌≡◌, ℕ, ◌<◌, List, bit_and, get_or, nat_lt}
 use Rattle.std.specs.Int.{bit_not, w64}
 use Rattle.pg_check.specs.Prelude.{FinSet, contains, nat_cmp, point_count, Game, IsMadeForGame}
-use Rattle.pg_check.specs.Prelude.{lines_of, room_of}
-use Rattle.pg_check.specs.Masks.{AreMasks}
+use Rattle.pg_check.specs.Prelude.{room_of, AreMasksOf}
 use Rattle.pg_check.specs.declared.tester.Tester.{Tester}
 
 -- the set holds just the points of the game
@@ -23,4 +22,4 @@ pub record IsReadyFor (t : Tester) (g : Game) : Type 0 where
   pub judge : IsMadeForGame t.judge g
   pub joiner : IsMadeForGame (room_of t.joiner) g
   pub points : ArePointsOf t.points g
-  pub masks : AreMasks (lines_of g) t.masks.items
+  pub masks : AreMasksOf g t.masks.items

@@ -3,13 +3,13 @@ ghost use Rattle.std.specs.Prelude.{◌≡◌, ◌++◌, ◌∷◌, [], List, If
 ghost use Rattle.pg_check.specs.Prelude.{IsWithinLimits, parts_of, Cert, Part};
 ghost use Rattle.pg_check.specs.Checking.{StandsFor, AreNext, IsWhole, IsVerdict};
 
-use crate::marks::Marks;
 use crate::node::first_fault;
 use crate::present::Present;
 use crate::tester::Tester;
 use pg_base::{Goal, Memory, Side};
 use pg_cert::{Node, Part};
 use pg_game::Game;
+use pg_potential::Marks;
 use std::alloc::Global;
 
 /// Where a certificate isn't valid, and why.

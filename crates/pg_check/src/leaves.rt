@@ -2,17 +2,15 @@
 ghost use Rattle.std.specs.Prelude.{◌≡◌, ◌≢◌, ◌↔◌, IsTrue, true, ℕ};
 ghost use Rattle.pg_check.specs.Prelude.{Switching, Side, Goal, IsPosition, IsMadeForGame, room_of};
 ghost use Rattle.pg_check.specs.Prelude.{HasPairs, PotentialFits, HasPotential, HasTrees, HasCuts};
-ghost use Rattle.pg_check.specs.Prelude.{HasThreat, is_allowed, lines_of};
-ghost use Rattle.pg_check.specs.Masks.{AreMasks};
+ghost use Rattle.pg_check.specs.Prelude.{HasThreat, is_allowed, AreMasksOf};
 
 use crate::edge_sets::{cuts_hold, trees_hold};
-use crate::masks::Mask;
 use crate::threats::threat_holds;
-use crate::totals::is_surely_low;
 use pg_base::{Goal, Kind, Side};
 use pg_cert::Body;
 use pg_game::{Game, Judge, Position};
 use pg_graph::Joiner;
+use pg_potential::Mask;
 
 /// Whether pairs meet their condition.
 pub(crate) fn has_pairs(g: &Game, side: Side, p: &Position, body: &Body) -> bool
@@ -25,20 +23,18 @@ pub(crate) fn has_pairs(g: &Game, side: Side, p: &Position, body: &Body) -> bool
     pg_pairing::holds(g, p, side, pairs.as_slice())
 }
 
-/// Whether Breaker's potential, or Avoider's by the kind, is low enough. On large boards Breaker's
-/// is first summed by the masks of the lines, most of which have no mark.
+/// Whether Breaker's potential, or Avoider's by the kind, is low enough.
 fn potential_fits(masks: &[Mask], g: &Game, side: Side, p: &Position) -> bool
     requires lines { g.now.kind ≢ Switching }
-    requires masks { AreMasks (lines_of g.now) masks.now }
+    requires masks { AreMasksOf g.now masks.now }
     requires position { IsPosition g.now p.now }
     ensures { IsTrue result ↔ PotentialFits g.now.kind g.now p.now side }
 {
-    if g.kind != Kind::AvoiderEnforcer && g.points() > 64 && is_surely_low(masks, g, p, side) {
-        return true;
-    }
     match g.kind {
-        Kind::AvoiderEnforcer => pg_avoider::holds(g, p),
-        Kind::MakerBreaker | Kind::MakerMaker | Kind::Switching => pg_potential::holds(g, p, side),
+        Kind::AvoiderEnforcer => pg_potential::avoider::holds(g, p),
+        Kind::MakerBreaker | Kind::MakerMaker | Kind::Switching => {
+            pg_potential::holds_by_masks(masks, g, p, side)
+        }
     }
 }
 
@@ -46,7 +42,7 @@ fn potential_fits(masks: &[Mask], g: &Game, side: Side, p: &Position) -> bool
 pub(crate) fn has_potential(masks: &[Mask], g: &Game, side: Side, p: &Position, body: &Body) -> bool
     requires allowed { (bias : ℕ) × (s : Side) × (goal : Goal)
         × (is_allowed g.now.kind bias s goal body.now ≡ true) }
-    requires masks { AreMasks (lines_of g.now) masks.now }
+    requires masks { AreMasksOf g.now masks.now }
     requires position { IsPosition g.now p.now }
     ensures { IsTrue result ↔ HasPotential g.now side p.now body.now }
 {

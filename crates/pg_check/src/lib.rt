@@ -8,15 +8,12 @@ mod checking;
 mod edge_sets;
 mod feeding;
 mod leaves;
-mod marks;
-mod masks;
 mod moves;
 mod node;
 mod present;
 mod rounds;
 mod tester;
 mod threats;
-mod totals;
 
 pub use checked::{CheckFault, Checked, check, faults_are_told, valid_claims_are_forced};
 pub use checking::{Checking, Rejected};

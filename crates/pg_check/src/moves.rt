@@ -3,14 +3,13 @@ ghost use Rattle.std.specs.Prelude.{◌≡◌, ◌*◌, ◌<◌, map, true, ◌�
 ghost use Rattle.pg_check.specs.Prelude.{All, NamesEarlier, IsNodeOf, FollowsMove, FollowMoves};
 ghost use Rattle.pg_check.specs.Prelude.{HasTurn, TakesFree, HasWeaker, AreBelow, point_count};
 ghost use Rattle.pg_check.specs.Prelude.{free_points, IsPosition, is_free, after};
-ghost use Rattle.pg_check.specs.Prelude.{x_after, y_after};
-ghost use Rattle.pg_check.specs.Marks.{kept, AreFlat, AreMarksOf};
+ghost use Rattle.pg_check.specs.Prelude.{x_after, y_after, kept, AreFlat, AreMarksOf};
 ghost use Rattle.pg_check.specs.Present.{bare};
 
-use crate::marks::Marks;
 use pg_base::{MAX_MEMBERS, Side};
 use pg_cert::{Body, Reply};
 use pg_game::{Game, Position};
+use pg_potential::Marks;
 
 /// Whether every child has a number below `k`.
 fn are_earlier(k: usize, replies: &[Reply]) -> bool

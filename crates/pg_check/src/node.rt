@@ -2,8 +2,8 @@
 ghost use Rattle.std.specs.Prelude.{◌≡◌, ◌<◌, ◌≤◌, ◌+◌, ◌↔◌, IsTrue, IfSome, IfNone, Some, true};
 ghost use Rattle.pg_check.specs.Prelude.{IsPosition, is_over, outcome, with_turn};
 ghost use Rattle.pg_check.specs.Prelude.{reaches, IsInGame, IsOwed, EndsRight, is_allowed};
+ghost use Rattle.pg_check.specs.Prelude.{AreMarksOf};
 ghost use Rattle.pg_check.specs.Tester.{ArePointsOf, IsReadyFor};
-ghost use Rattle.pg_check.specs.Marks.{AreMarksOf};
 ghost use Rattle.pg_check.specs.Present.{HasPosition, PassesSoFar, IsSoundSoFar, IsLeastSoFar};
 ghost use Rattle.pg_check.specs.Present.{known, AreMoves, MeetsCriterion};
 

@@ -1,7 +1,7 @@
 //! The claim that is being checked.
 
-use crate::marks::Marks;
 use pg_base::{Goal, Side};
+use pg_potential::Marks;
 
 /// What a claim says, how many nodes it has, and the positions of those that have been checked.
 #[derive(Debug, Drop)]

@@ -3,10 +3,10 @@ ghost use Rattle.std.specs.Prelude.{◌≡◌, Some, None, IfOk, if◌then◌els
 ghost use Rattle.pg_check.specs.Prelude.{IsPosition, is_over, outcome};
 ghost use Rattle.pg_check.specs.Tester.{IsReadyFor};
 
-use crate::masks::{Mask, line_result, masks_of};
 use pg_base::{Kind, Memory, PointSet, Score};
 use pg_game::{Game, Judge, Position, joiner_for};
 use pg_graph::Joiner;
+use pg_potential::{Mask, line_result, masks_of};
 use std::alloc::Global;
 
 /// A judge, for a game on a graph a joiner, and the game's points and lines.

@@ -1,9 +1,9 @@
 -- What a player keeps through a move and through a reply.
 use Rattle.std.proofs.Common.{◌≡◌, ◌∙◌, ℕ, ◌<◌, true, false, Option, Some, None, Ok, if◌then◌else◌}
-use Rattle.std.proofs.Common.{sym, subst, inl, inr, arith}
-use Rattle.pg_player.proofs.Common.{false≢true, AreBelow, other, Score, Room, Game, Position}
+use Rattle.std.proofs.Common.{sym, subst, arith}
+use Rattle.pg_player.proofs.Common.{AreBelow, other, Score, Room, Game, Position}
 use Rattle.pg_player.proofs.Common.{is_free, point_count, is_over, outcome, after, IsMadeForGame}
-use Rattle.pg_player.proofs.Common.{HasJoiner, judged_move, Forces, IsPosition-after}
+use Rattle.pg_player.proofs.Common.{rules_of, HasJoiner, judged_move, Forces, IsPosition-after}
 use Rattle.pg_player.proofs.Common.{free_or_lowest, Claim, Standing, replied_by}
 use Rattle.pg_game.proofs.Limits.{point_count-le}
 use Rattle.pg_player.specs.InPlay.{GoesOn, IsPlaying, IsReached, KeepsUp}
@@ -12,7 +12,8 @@ use Rattle.pg_player.specs.Stand.{LeadsOn}
 use Rattle.pg_player.proofs.Beside.{IsBeside-trans, beside-turn, beside-forces, beside-going}
 use Rattle.pg_player.proofs.Beside.{beside-move, beside-reply}
 use Rattle.pg_player.proofs.Plays.{IsPosition-reached}
-use Rattle.pg_player.proofs.Replying.{IsLegal, judged-legal, leads_on, on-replied}
+use Rattle.pg_player.proofs.Replying.{leads_on, on-replied}
+use Rattle.pg_switch.proofs.Seats.{IsLegal, judged-legal, theirs}
 
 -- X's points are points of the game
 pub x_range : (g : Game) (p : Position) → IsReached g p → AreBelow p.x (point_count g)
@@ -88,7 +89,7 @@ pub record Heard (g : Game) (c : Claim) (p : Position) (s : Standing) (v w : ℕ
 
 pub heard : (g : Game) (c : Claim) (p : Position) (s : Standing) (v w : ℕ) (next : Position)
     → GoesOn g c p s
-    → IsLegal g p v next
+    → IsLegal (rules_of g) p v next
     → p.turn ≡ other c.side
     → w ≡ free_or_lowest g s.imagined v
     → Heard g c p s v w
@@ -135,16 +136,6 @@ IsPlaying-next g c p next s ending judge judge' joiner joiner' on reached e know
       joined = subst (λ (r : Option Room). HasJoiner r g) (sym same_joiner) joined;
     }
 
--- where the game goes on, a player that waits has the other side to move
-pub theirs : (play : Play)
-    → Waits play
-    → is_over play.game play.position ≡ false
-    → play.position.turn ≡ other play.claim.side
-theirs play waits going = elim waits [
-  | inl over ↦ absurd (false≢true (sym going ∙ over))
-  | inr turn ↦ turn
-]
-
 -- where the judge lets the point v of the other side pass, a player that waits hears of it
 pub heard-judged : (g : Game) (c : Claim) (p : Position) (s : Standing) (v w : ℕ) (next : Position)
     → GoesOn g c p s
@@ -153,13 +144,8 @@ pub heard-judged : (g : Game) (c : Claim) (p : Position) (s : Standing) (v w : �
     → w ≡ free_or_lowest g s.imagined v
     → Heard g c p s v w
 heard-judged g c p s v w next h waits judged chosen =
-    let legal = judged-legal g p v next judged in
-    heard g c p s v w next h legal (theirs (record {
-      game = g;
-      claim = c;
-      position = p;
-      standing = s;
-    }) waits legal.going) chosen
+    let legal = judged-legal (rules_of g) p v next judged in
+    heard g c p s v w next h legal (theirs (rules_of g) p c.side waits legal.going) chosen
 
 -- a reply that is taken, and then a move where one is owed
 pub answered : (before between now : Play) (v : ℕ) (own : Option ℕ)

@@ -1,6 +1,6 @@
 -- What an own move keeps, body by body.
 use Rattle.std.proofs.Common.{◌≡◌, ◌≢◌, ◌∙◌, ℕ, ◌<◌, Bool, true, false, ◌&&◌, ◌==◌, ◌+◌, suc, List}
-use Rattle.std.proofs.Common.{[], ◌∷◌, drop, get_or, length, arith, Option, Some, None, refl, sym}
+use Rattle.std.proofs.Common.{[], ◌∷◌, drop, get_or, length, arith, Option, Some, refl, sym}
 use Rattle.std.proofs.Common.{ap, subst, subst₂, inl, inr, ◌⊎◌, eqb-true}
 use Rattle.pg_player.proofs.Common.{cases_Bool, cases_lt, and_parts, false≢true, FinSet, nat_cmp}
 use Rattle.pg_player.proofs.Common.{KeepsRest}
@@ -12,7 +12,7 @@ use Rattle.pg_player.proofs.Common.{potential_answer, AvoiderHolds, avoider_answ
 use Rattle.pg_player.proofs.Common.{LeadsToLine, IsAttack, IsAttacking, unfilled-going}
 use Rattle.pg_player.proofs.Common.{over-filling, Forces-attacked, Answered, TreesHold, CutsHold}
 use Rattle.pg_player.proofs.Common.{turn-after_x, IsPosition-after, Forces-over, Forces-all}
-use Rattle.pg_player.proofs.Common.{Forces-any, rest, RestHolds, MayClaim, HeldBefore}
+use Rattle.pg_player.proofs.Common.{Forces-any, rest, RestHolds, MayClaim}
 use Rattle.pg_player.proofs.Common.{Forces-potential_breaker, Forces-potential_draw, Forces-avoider}
 use Rattle.pg_player.proofs.Common.{IsSwitchingTurn, HeldUntil, LeavesHeld, IsTreesAnswer}
 use Rattle.pg_player.proofs.Common.{IsCutsAnswer, Claim, Body, Move, Pairs, Potential, Trees, Cuts}

@@ -1,11 +1,10 @@
 -- What a player has when it is opened.
-use Rattle.std.proofs.Common.{◌≡◌, ◌∙◌, ℕ, ◌-◌, ◌<◌, Bool, true, List, [], ◌∷◌, Option, Some, None}
-use Rattle.std.proofs.Common.{find, length, get_or, slice_get, if◌then◌else◌, IfSome, refl, sym, ap}
-use Rattle.std.proofs.Common.{subst, inl, inr, arith, Contains}
-use Rattle.pg_player.proofs.Common.{∥∥₁_elim, ∥∥₁_map, le_prop, cases_Bool, and_parts, false≢true}
+use Rattle.std.proofs.Common.{◌≡◌, ◌∙◌, ℕ, ◌-◌, ◌<◌, true, List, [], ◌∷◌, Option, Some, None}
+use Rattle.std.proofs.Common.{find, length, get_or, slice_get, refl, sym, ap, subst, arith}
+use Rattle.std.proofs.Common.{Contains}
+use Rattle.pg_player.proofs.Common.{∥∥₁_elim, ∥∥₁_map, le_prop, and_parts}
 use Rattle.pg_player.proofs.Common.{slice_get-get_or, slice_get_read, slice_get_within, option_or}
-use Rattle.pg_player.proofs.Common.{is_same_side, Score, Side, X, Y, Game, Position, is_over}
-use Rattle.pg_player.proofs.Common.{outcome, start, with_turn, reaches, Forces, value-over}
+use Rattle.pg_player.proofs.Common.{is_same_side, Side, Game, start, with_turn}
 use Rattle.pg_player.proofs.Common.{find_member, Cert, Claim, Node, IsClaim, IsWithinLimits}
 use Rattle.pg_player.proofs.Common.{Standing, arrives, IsNodeOf, IsValid}
 use Rattle.pg_cert.specs.declared.node_fault.NodeFault.TheVariants as faults
@@ -14,26 +13,19 @@ use Rattle.pg_player.specs.Stand.{Settles}
 use Rattle.pg_player.specs.Player.{is_claim_of, is_win_of, is_win, chosen_claim}
 use Rattle.pg_player.proofs.Arriving.{arrived, Settles-node}
 use Rattle.pg_player.proofs.Stable.{valid_claim}
+use Rattle.pg_switch.proofs.Known.{IsChosen, same_side-true}
 
 -- ---- the claim that is chosen
 
-same_side-true : (a b : Side) → is_same_side a b ≡ true → a ≡ b
-same_side-true X X h = refl
-same_side-true X Y h = absurd (false≢true h)
-same_side-true Y X h = absurd (false≢true h)
-same_side-true Y Y h = refl
-
 -- a claim of the certificate, of the side and the game's turn
-pub record IsChosen (g : Game) (cert : Cert) (side : Side) (claim : Claim) : Type 0 where
-  pub place : ℕ
-  pub at : slice_get cert.claims place ≡ Some claim
-  pub side_is : claim.side ≡ side
-  pub turn_is : claim.turn ≡ g.turn
+abbrev pub IsChosenClaim : Game → Cert → Side → Claim → Type 0
+IsChosenClaim g cert side claim =
+    IsChosen (λ (c : Claim). c.side) (λ (c : Claim). c.turn) cert.claims side g.turn claim
 
 from_test : (g : Game) (cert : Cert) (side : Side) (claim : Claim)
     → Contains cert.claims claim
     → is_claim_of side g.turn claim ≡ true
-    → IsChosen g cert side claim
+    → IsChosenClaim g cert side claim
 from_test g cert side claim member on =
     let parts = and_parts (is_same_side claim.side side) (is_same_side claim.turn g.turn) on in
     record {
@@ -46,14 +38,14 @@ from_test g cert side claim member on =
 
 pub chosen-is : (g : Game) (cert : Cert) (side : Side) (claim : Claim)
     → chosen_claim g cert side ≡ Some claim
-    → IsChosen g cert side claim
+    → IsChosenClaim g cert side claim
 unfolding chosen_claim
 chosen-is g cert side claim h = by_first (find (is_win_of side g.turn) cert.claims) refl h
   where
     by_first : (o : Option Claim)
         → find (is_win_of side g.turn) cert.claims ≡ o
         → option_or o (find (is_claim_of side g.turn) cert.claims) ≡ Some claim
-        → IsChosen g cert side claim
+        → IsChosenClaim g cert side claim
     by_first (Some first) e is =
         let same : first ≡ claim = cc in
         let member = find_member (is_win_of side g.turn) cert.claims claim (e ∙ is) in
@@ -79,7 +71,7 @@ claim_limits cert i claim at limits =
 pub sound-chosen : (g : Game) (cert : Cert) (side : Side) (claim : Claim)
     → ∥ IsWithinLimits cert ∥₁
     → ∥ IsValid g cert ∥₁
-    → IsChosen g cert side claim
+    → IsChosenClaim g cert side claim
     → IsSoundClaim g claim
 sound-chosen g cert side claim limits valid is = record {
   limits = ∥∥₁_map limits (claim_limits cert is.place claim is.at);
@@ -128,24 +120,3 @@ pub Settles-root : (g : Game) (claim : Claim)
 Settles-root g claim h turn =
     let node = root g claim h turn in
     Settles-node g claim h (length claim.nodes - 1) node.node node.at
-
--- ---- the outcome reaches the goal
-
-pub outcome-reaches : (g : Game) (claim : Claim) (p : Position) (ending : Option Score)
-    → Forces g p claim.side claim.goal
-    → ending ≡ (if is_over g p then Some (outcome g p) else None)
-    → IfSome ending (λ score. reaches claim.side claim.goal score ≡ true)
-outcome-reaches g claim p ending forced known = elim (cases_Bool (is_over g p)) [
-  | inl over ↦
-      let is : ending ≡ Some (outcome g p) =
-      known ∙ ap (λ (b : Bool). if b then Some (outcome g p) else None) over in
-      let P : Option Score → Type 0 =
-      λ o. IfSome o (λ score. reaches claim.side claim.goal score ≡ true) in
-      subst P (sym is) (ap (reaches claim.side claim.goal) (sym (value-over g p over)) ∙ forced)
-  | inr going ↦
-      let is : ending ≡ None =
-      known ∙ ap (λ (b : Bool). if b then Some (outcome g p) else None) going in
-      let P : Option Score → Type 0 =
-      λ o. IfSome o (λ score. reaches claim.side claim.goal score ≡ true) in
-      subst P (sym is) tt
-]

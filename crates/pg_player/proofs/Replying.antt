@@ -1,11 +1,10 @@
 -- What a reply of the other side keeps, body by body.
-use Rattle.std.proofs.Common.{◌≡◌, ◌∙◌, ℕ, ◌<◌, ◌≤◌, Bool, true, false, ◌&&◌, ◌==◌, List, [], ◌∷◌}
+use Rattle.std.proofs.Common.{◌≡◌, ◌∙◌, ℕ, ◌<◌, ◌≤◌, true, false, ◌&&◌, ◌==◌, List, [], ◌∷◌}
 use Rattle.std.proofs.Common.{Option, Some, None, map, find, refl, sym, ap, subst, inl, inr, ◌⊎◌}
-use Rattle.std.proofs.Common.{arith, eqb, eqb-true, eq-eqb, ltb-true, nat_lt, if◌then◌else◌, Ok}
-use Rattle.std.proofs.Common.{Err}
+use Rattle.std.proofs.Common.{arith, eqb, eqb-true, eq-eqb, if◌then◌else◌}
 use Rattle.pg_player.proofs.Common.{cases_Bool, false≢true, both_ways, list_any, other, Goal, Kind}
 use Rattle.pg_player.proofs.Common.{MakerBreaker, MakerMaker, AvoiderEnforcer, Switching, Side, X}
-use Rattle.pg_player.proofs.Common.{Y, Game, Position, judged_move, is_free, point_count, bias_of}
+use Rattle.pg_player.proofs.Common.{Y, Game, Position, is_free, point_count, bias_of}
 use Rattle.pg_player.proofs.Common.{free_points, is_over, after, IsPosition, Forces, AvoiderHolds}
 use Rattle.pg_player.proofs.Common.{side≢other, other_other, turn-passes, IsPosition-after}
 use Rattle.pg_player.proofs.Common.{LeadsToLine, near-from, near-stays, near-filling}
@@ -14,7 +13,6 @@ use Rattle.pg_player.proofs.Common.{kept-reply_draw, kept-y, Claim, Node, Body, 
 use Rattle.pg_player.proofs.Common.{Pairs, Potential, Trees, Cuts, Threat, Weaker, Reply, Standing}
 use Rattle.pg_player.proofs.Common.{arrives, replied_by, shows_defence, pairs_fit, PotentialFits}
 use Rattle.pg_player.proofs.Common.{FollowsMove, IsNodeOf}
-use Rattle.pg_game.specs.declared.position.Illegal.TheVariants as illegal
 use Rattle.pg_game.proofs.FreePoints.{any-free_points}
 use Rattle.pg_player.specs.Stand.{LeadsOn}
 use Rattle.pg_player.specs.InPlay.{Stands, PotentialWaiting, InPlay, GoesOn}
@@ -328,35 +326,3 @@ module _ (g : Game) (c : Claim) (p : Position) (v : ℕ) (going : is_over g p �
       }) next = cc in
       subst (λ (s : Standing). GoesOn g c (after g p v) s) same (on-line u points last h)
   on-replied (Weaker child) last next h rule = absurd (h.stands.waiting going theirs)
-
--- ---- what a judge has found legal
-
--- a move that is judged legal: the game goes on, and the point is a free one of the game
-pub record IsLegal (g : Game) (p : Position) (v : ℕ) (next : Position) : Type 0 where
-  pub going : is_over g p ≡ false
-  pub within : v < point_count g
-  pub free : is_free p v ≡ true
-  pub leads : next ≡ after g p v
-
-judge_by : (low over free : Bool) (q next : Position)
-    → (if low
-    then (if over then Err illegal.Over else (if free then Ok q else Err illegal.Taken))
-    else Err illegal.Range) ≡ Ok next
-    → (low ≡ true) × (over ≡ false) × (free ≡ true) × (next ≡ q)
-judge_by true true free q next h = cc
-judge_by true false true q next h = let same : q ≡ next = cc in (refl, refl, refl, sym same)
-judge_by true false false q next h = cc
-judge_by false over free q next h = cc
-
-pub judged-legal : (g : Game) (p : Position) (v : ℕ) (next : Position)
-    → judged_move g p v ≡ Ok next
-    → IsLegal g p v next
-judged-legal g p v next h =
-    let parts =
-    judge_by (nat_lt v (point_count g)) (is_over g p) (is_free p v) (after g p v) next h in
-    record {
-      going = parts.1;
-      within = ltb-true v (point_count g) parts.0;
-      free = parts.2;
-      leads = parts.3;
-    }

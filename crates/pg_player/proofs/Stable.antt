@@ -1,14 +1,14 @@
 -- The soundness of a node is decided by tests, so that it holds wherever it is known to hold
 -- without a proof at hand.
-use Rattle.std.proofs.Common.{◌≡◌, ◌∙◌, ℕ, suc, ◌<◌, ◌≤◌, Bool, true, false, ◌&&◌, List, Option}
-use Rattle.std.proofs.Common.{Some, None, slice_get, refl, sym, ap, subst, inl, inr, ◌⊎◌, arith}
+use Rattle.std.proofs.Common.{◌≡◌, ◌∙◌, ℕ, suc, Bool, true, false, ◌&&◌, List, Option}
+use Rattle.std.proofs.Common.{Some, None, slice_get, refl, sym, ap, subst}
 use Rattle.std.proofs.Common.{eqb, Any}
-use Rattle.pg_player.proofs.Common.{∥∥₁_elim, ∥∥₁_map, le_prop, cases_lt, and_parts, Coded-set}
-use Rattle.pg_player.proofs.Common.{coded_ℕ, coded_bool, coded_list, FinSet, contains, list_any}
+use Rattle.pg_player.proofs.Common.{∥∥₁_elim, ∥∥₁_map, le_prop, and_parts, Coded-set}
+use Rattle.pg_player.proofs.Common.{coded_ℕ, coded_list, FinSet, list_any}
 use Rattle.pg_player.proofs.Common.{nat_cmp, AreBelow, Goal, Kind, MakerBreaker, MakerMaker}
 use Rattle.pg_player.proofs.Common.{AvoiderEnforcer, Switching, Pair, Side, X, Y, Field, Lines}
-use Rattle.pg_player.proofs.Common.{Game, Position, point_count, after, is_free, PairsHold}
-use Rattle.pg_player.proofs.Common.{HoldsPair, IsThreatLine, IsFreeEdge, AreFreeWithE, AreTrees}
+use Rattle.pg_player.proofs.Common.{Game, Position, point_count, after, PairsHold}
+use Rattle.pg_player.proofs.Common.{HoldsPair, IsThreatLine, AreTrees}
 use Rattle.pg_player.proofs.Common.{AreCuts, TreesHoldOn, CutsHoldOn, with_set, IsNoWorse, Claim}
 use Rattle.pg_player.proofs.Common.{Node, Body, Over, Move, Pairs, Potential, Trees, Cuts, Threat}
 use Rattle.pg_player.proofs.Common.{Weaker, position_of, IsInGame, NamesEarlier, IsNodeOf}
@@ -17,7 +17,6 @@ use Rattle.pg_player.proofs.Common.{PotentialFits, with_e_named, HasPairs, HasPo
 use Rattle.pg_player.proofs.Common.{HasCuts, HasThreat, IsNoWorseThanNode, HasWeaker, Passes}
 use Rattle.pg_player.proofs.Common.{IsSound, IsValidClaim}
 use Rattle.pg_base.specs.Sets.{IsBelow}
-use Rattle.pg_base.specs.contracts.side.Side as side_row
 use Rattle.pg_graph.specs.declared.graph.Graph.{Graph}
 use Rattle.pg_graph.specs.Graph.{edge_count, IsJoinedIn}
 use Rattle.pg_graph.proofs.GraphLemmas.{joins_in-sound, joins_in-complete}
@@ -27,6 +26,7 @@ use Rattle.pg_game.specs.Field.{field_points}
 use Rattle.pg_game.proofs.ThreatSearch.{leads_test, leads-tested, tested-leads}
 use Rattle.pg_game.proofs.Members.{list_any-one, member-from_any}
 use Rattle.pg_switch.proofs.EdgeSets.{with_e-edges, free-edges, with_set-edges}
+use Rattle.pg_switch.proofs.Known.{same_bool, same_number, same_side, less, are_free, free_or_e}
 use Rattle.pg_pairing.proofs.PairLoops.{Contains-any, any-Contains}
 use Rattle.pg_cert.specs.declared.node.Body.TheVariants.{All as Every}
 use Rattle.pg_cert.specs.declared.node_fault.NodeFault.{NodeFault}
@@ -34,23 +34,11 @@ use Rattle.pg_cert.specs.declared.node_fault.NodeFault.TheVariants as faults
 
 -- ---- facts that have one proof at most
 
-same_bool : (a b : Bool) → ∥ a ≡ b ∥₁ → a ≡ b
-same_bool a b t = ∥∥₁_elim t (Coded-set coded_bool a b) (λ x. x)
-
-same_number : (a b : ℕ) → ∥ a ≡ b ∥₁ → a ≡ b
-same_number a b t = ∥∥₁_elim t (Coded-set coded_ℕ a b) (λ x. x)
-
-same_side : (a b : Side) → ∥ a ≡ b ∥₁ → a ≡ b
-same_side a b t = ∥∥₁_elim t (Coded-set side_row.the_row.coded a b) (λ x. x)
-
 same_position : (a b : Position) → ∥ a ≡ b ∥₁ → a ≡ b
 same_position a b t = ∥∥₁_elim t (Coded-set position_row.the_row.coded a b) (λ x. x)
 
 same_list : (a b : List ℕ) → ∥ a ≡ b ∥₁ → a ≡ b
 same_list a b t = ∥∥₁_elim t (Coded-set (coded_list coded_ℕ) a b) (λ x. x)
-
-less : (a b : ℕ) → ∥ a < b ∥₁ → a < b
-less a b t = ∥∥₁_elim t le_prop (λ x. x)
 
 never : ∥ ⊥ ∥₁ → ⊥
 never t = let one : IsProp ⊥ = hlevel in ∥∥₁_elim t one (λ (x : ⊥). x)
@@ -137,39 +125,13 @@ joined : (h : Graph) (set : ℕ → Bool) (u v : ℕ)
 joined h set u v small t =
     joins_in-sound h set u v (same_bool _ _ (∥∥₁_map t (joins_in-complete h set u v small)))
 
-free_with_e : (h : Graph) (p : Position) (side : Side) (a : FinSet nat_cmp)
-    → ∥ AreFreeWithE h p side a ∥₁
-    → AreFreeWithE h p side a
-free_with_e h p side a t f on = elim (cases_lt f (edge_count h)) [
-  | inl low ↦ inl (low, same_bool _ _ (∥∥₁_map t (λ s. by_low low (s f on))))
-  | inr high ↦ inr (
-    same_number _ _ (∥∥₁_map t (λ s. (by_high high (s f on)).0)),
-    same_side _ _ (∥∥₁_map t (λ s. (by_high high (s f on)).1)),
-  )
-]
-  where
-    by_low : f < edge_count h
-        → IsFreeEdge h p f ⊎ ((f ≡ edge_count h) × (p.turn ≡ side))
-        → is_free p f ≡ true
-    by_low low (inl free) = free.1
-    by_low low (inr e) = let same = e.0 in absurd (omega (arith, low, same))
-
-    by_high : edge_count h ≤ f
-        → IsFreeEdge h p f ⊎ ((f ≡ edge_count h) × (p.turn ≡ side))
-        → (f ≡ edge_count h) × (p.turn ≡ side)
-    by_high high (inl free) = let low = free.0 in absurd (omega (arith, high, low))
-    by_high high (inr e) = e
-
 trees-on : (h : Graph) (p : Position) (a1 a2 : FinSet nat_cmp)
     → AreBelow p.x (edge_count h)
     → ∥ AreTrees h p a1 a2 ∥₁
     → AreTrees h p a1 a2
 trees-on h p a1 a2 x_range t =
-    let first_free = free_with_e h p X a1 (∥∥₁_map t (λ s. s.first_free)) in
-    let second_free : (f : ℕ) → contains a2 f ≡ true → IsFreeEdge h p f = λ f on. (
-      less _ _ (∥∥₁_map t (λ s. (s.second_free f on).0)),
-      same_bool _ _ (∥∥₁_map t (λ s. (s.second_free f on).1)),
-    ) in
+    let first_free = free_or_e (edge_count h) p X a1 (∥∥₁_map t (λ s. s.first_free)) in
+    let second_free = are_free (edge_count h) p a2 (∥∥₁_map t (λ s. s.second_free)) in
     let first_small = with_set-edges h p a1 x_range (with_e-edges h p X a1 first_free) in
     let second_small = with_set-edges h p a2 x_range (free-edges h p a2 second_free) in
     record {
@@ -186,11 +148,8 @@ cuts-on : (h : Graph) (p : Position) (d1 d2 : FinSet nat_cmp)
     → ∥ AreCuts h p d1 d2 ∥₁
     → AreCuts h p d1 d2
 cuts-on h p d1 d2 t = record {
-  first_free = free_with_e h p Y d1 (∥∥₁_map t (λ s. s.first_free));
-  second_free = λ f on. (
-    less _ _ (∥∥₁_map t (λ s. (s.second_free f on).0)),
-    same_bool _ _ (∥∥₁_map t (λ s. (s.second_free f on).1)),
-  );
+  first_free = free_or_e (edge_count h) p Y d1 (∥∥₁_map t (λ s. s.first_free));
+  second_free = are_free (edge_count h) p d2 (∥∥₁_map t (λ s. s.second_free));
   apart = λ f on. same_bool _ _ (∥∥₁_map t (λ s. s.apart f on));
   first = λ f on z. never (∥∥₁_map t (λ s. s.first f on z));
   first_parts = λ off z. never (∥∥₁_map t (λ s. s.first_parts off z));

@@ -5,7 +5,7 @@ use Rattle.std.specs.Prelude.{if◌then◌else◌}
 use Rattle.pg_player.specs.Prelude.{other, Kind, MakerBreaker, MakerMaker, AvoiderEnforcer, Pair}
 use Rattle.pg_player.specs.Prelude.{Score, Side, Room, Game, Position, is_free, point_count}
 use Rattle.pg_player.specs.Prelude.{free_points, is_over, outcome, after, start, IsPosition}
-use Rattle.pg_player.specs.Prelude.{IsMadeForGame, HasJoiner, IsLegalPlay, played, Forces}
+use Rattle.pg_player.specs.Prelude.{IsMadeForGame, HasJoiner, IsReachedBy, rules_of, Forces}
 use Rattle.pg_player.specs.Prelude.{PotentialHolds, AvoiderHolds, threatens, has_threat}
 use Rattle.pg_player.specs.Prelude.{LeadsToLine, TreesHold, CutsHold, Claim, Node, Body, Over, Move}
 use Rattle.pg_player.specs.Prelude.{All, Pairs, Potential, Trees, Cuts, Threat, Weaker, Reply}
@@ -99,10 +99,8 @@ pub record Stands (g : Game) (c : Claim) (s : Standing) : Type 0 where
 -- ---- the whole
 
 -- the position is that after a legal play from the game's marks
-pub record IsReached (g : Game) (p : Position) : Type 0 where
-  pub moves : List ℕ
-  pub legal : IsLegalPlay g (start g) moves
-  pub leads : played g (start g) moves ≡ p
+abbrev pub IsReached : Game → Position → Type 0
+IsReached g p = IsReachedBy (rules_of g) (start g) p
 
 -- a claim within the limits whose nodes are all sound
 pub record IsSoundClaim (g : Game) (c : Claim) : Type 0 where

@@ -40,20 +40,21 @@ pub use Rattle.pg_game.specs.Position.{is_free}
 pub use Rattle.pg_game.specs.Potential.{PotentialHolds, potential_answer}
 pub use Rattle.pg_game.specs.Threat.{IsAttack, IsAttacking, IsThreatLine, LeadsToLine, has_threat}
 pub use Rattle.pg_game.specs.Threat.{may_attack, threatens}
-pub use Rattle.pg_game.specs.Trees.{Answered, AreCuts, AreFreeWithE, AreTrees, CutsHold, CutsHoldOn}
-pub use Rattle.pg_game.specs.Trees.{IsFreeEdge, TreesHold, TreesHoldOn, with_set}
-pub use Rattle.pg_game.specs.Value.{Forces, reaches}
+pub use Rattle.pg_game.specs.Trees.{Answered, AreCuts, AreTrees, CutsHold, CutsHoldOn, TreesHold}
+pub use Rattle.pg_game.specs.Trees.{TreesHoldOn, with_set}
+pub use Rattle.pg_game.specs.Value.{Forces, reaches, rules_of}
 pub use Rattle.pg_game.specs.Weaker.{IsNoWorse, free_or_lowest}
 pub use Rattle.pg_game.specs.declared.field.Field.{Field}
 pub use Rattle.pg_game.specs.declared.field.Field.TheVariants.{Lines}
 pub use Rattle.pg_game.specs.declared.game.Game.{Game}
 pub use Rattle.pg_game.specs.declared.position.Position.{Position}
 pub use Rattle.pg_graph.specs.Joiner.{Room}
-pub use Rattle.pg_pairing.specs.Rest.{ArePairsOf, HeldBefore, MayClaim, RestHolds, rest, KeepsRest}
+pub use Rattle.pg_pairing.specs.Rest.{ArePairsOf, HeldBefore, KeepsRest, MayClaim, RestHolds, rest}
 pub use Rattle.pg_switch.specs.Replies.{HeldUntil, IsCutsAnswer, IsSwitchingTurn, IsTreesAnswer}
 pub use Rattle.pg_switch.specs.Replies.{LeavesHeld}
+pub use Rattle.pg_switch.specs.Seat.{IsReachedBy}
 pub use Rattle.std.specs.Coded.{Coded-set, coded_bool, coded_list, coded_ℕ}
-pub use Rattle.std.specs.FinSet.{FinSet, contains}
+pub use Rattle.std.specs.FinSet.{FinSet}
 pub use Rattle.std.specs.List.{list_any}
 pub use Rattle.std.specs.Option.{option_or}
 pub use Rattle.std.specs.Ordering.{nat_cmp}

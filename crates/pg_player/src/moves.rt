@@ -58,7 +58,7 @@ fn potential_point(g: &Game, claim: &Claim, p: &Position) -> u16
         }) result (record { body = Potential; last = last; imagined = after g.now p.now result }) }
 {
     match g.kind {
-        Kind::AvoiderEnforcer => pg_avoider::answer(g, p),
+        Kind::AvoiderEnforcer => pg_potential::avoider::answer(g, p),
         Kind::MakerBreaker | Kind::MakerMaker => pg_potential::answer(g, p, claim.side),
         Kind::Switching => unreachable!(),
     }

@@ -4,8 +4,7 @@ use Rattle.std.proofs.Common.{ap₂, false, ◌∙◌, arith}
 use Rattle.pg_potential.proofs.Common.{Switching, Side, Game, Position, points_of, Contains, find}
 use Rattle.pg_potential.proofs.Common.{free_points, is_full, find_same, total, weight, greatest}
 use Rattle.pg_potential.proofs.Common.{greatest_weight, potential_answer, greatest-le}
-use Rattle.pg_potential.proofs.Common.{greatest-same, member-within, few_points-lines}
-use Rattle.pg_game.proofs.FreePoints.{first_free}
+use Rattle.pg_potential.proofs.Common.{greatest-same, member-within, few_points-lines, first_free}
 use Rattle.pg_potential.proofs.PotentialLaws.{answer-heaviest}
 use Rattle.pg_game.proofs.LineSums.{weight-le-total}
 

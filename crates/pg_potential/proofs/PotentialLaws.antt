@@ -11,9 +11,7 @@ use Rattle.pg_potential.proofs.Common.{after, IsPosition, total, weight, limit, 
 use Rattle.pg_potential.proofs.Common.{greatest_weight, times_counted, PotentialHolds, total_weight}
 use Rattle.pg_potential.proofs.Common.{point_weight, potential_answer, reaches, Forces, free-member}
 use Rattle.pg_potential.proofs.Common.{member-free, member-within, greatest-le, greatest-ge}
-use Rattle.pg_potential.proofs.Common.{greatest-at, find-some}
-use Rattle.std.specs.FinSet.{FinSet}
-use Rattle.std.specs.Ordering.{nat_cmp}
+use Rattle.pg_potential.proofs.Common.{greatest-at, find-some, FinSet, nat_cmp}
 use Rattle.pg_base.specs.declared.goal.Goal.{Goal}
 use Rattle.pg_base.specs.declared.goal.Goal.TheVariants.{Draw as AtLeastDraw}
 use Rattle.pg_game.specs.Strategy.{Keeps}

@@ -112,22 +112,24 @@ fn greatest_weight(g: &Game, p: &Position, side: Side) -> u128
 }
 
 /// Whether the total, with the greatest weight of a free point as often as it counts, is below the
-/// limit. No point weighs more than all lines, so the weights of points are often not needed.
-fn is_low(g: &Game, p: &Position, side: Side) -> bool
+/// limit; both are given. No point weighs more than all lines, so the weights of points are often
+/// not needed.
+pub(crate) fn is_low(g: &Game, p: &Position, side: Side, sum: u128, most: u128) -> bool
     requires lines { g.now.kind ≢ Switching }
     requires position { IsPosition g.now p.now }
+    requires sum { sum ≡ total g.now p.now side }
+    requires few { sum ≤ 2 ^ 115 }
+    requires most { most ≡ limit g.now }
     ensures { IsTrue result ↔ PotentialHolds g.now p.now side }
 {
-    let limit = limit(g);
-    let total = total_for(g, p, side);
-    if total >= limit {
+    if sum >= most {
         return false;
     }
     let times = u128::from(times_counted(g, p, side));
-    if total + times * total < limit {
+    if sum + times * sum < most {
         return true;
     }
-    total + times * greatest_weight(g, p, side) < limit
+    sum + times * greatest_weight(g, p, side) < most
 }
 
 /// Whether the potential is low enough for the side: the total, with the greatest weight of a free
@@ -150,5 +152,5 @@ pub fn holds(g: &Game, p: &Position, side: Side) -> bool
         → Forces g.now p.now side Win }
     ensures draw { IsTrue result → g.now.kind ≡ Kind.MakerMaker → Forces g.now p.now side Draw }
 {
-    is_low(g, p, side)
+    is_low(g, p, side, total_for(g, p, side), limit(g))
 }

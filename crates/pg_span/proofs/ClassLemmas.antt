@@ -1,25 +1,22 @@
 -- What holds of a solved game tells its class.
-use Rattle.std.proofs.Common.{◌≡◌, ℕ, ◌<◌, Some, None, List, [], ◌∷◌, zero, suc, refl, sym, subst}
+use Rattle.std.proofs.Common.{◌≡◌, ℕ, ◌<◌, Some, None, List, refl, sym, subst}
 use Rattle.std.proofs.Common.{arith, true}
 use Rattle.std.specs.Prelude.{Option}
 use Rattle.std.specs.Prelude.{slice_index}
-use Rattle.pg_span.proofs.Common.{All, both_ways, FinSet, nat_cmp, Win, Score, XWins, Draw, YWins}
+use Rattle.pg_span.proofs.Common.{both_ways, FinSet, nat_cmp, Win, Score, XWins, Draw, YWins}
 use Rattle.pg_span.proofs.Common.{Side, X, Y, edge_count, first_end_of, second_end_of}
 use Rattle.pg_span.proofs.Common.{ends_in_range, Position, value_by, reaches, ForcesBy, IsPlace}
 use Rattle.pg_span.proofs.Common.{ForcesBy-joining_trees, ForcesBy-parts}
 use Rattle.pg_span.specs.declared.game.SpanGame.{SpanGame}
 use Rattle.pg_span.specs.declared.cert.SpanBody.{SpanBody}
 use Rattle.pg_span.specs.declared.cert.SpanBody.TheVariants.{Trees, Parts}
-use Rattle.pg_span.specs.declared.cert.SpanCert.{SpanCert}
-use Rattle.pg_span.specs.declared.cert.SpanClaim.{SpanClaim}
 use Rattle.pg_span.specs.declared.cert.TheConstants.{PART_NUMBERS}
 use Rattle.pg_span.specs.declared.solved.Solved.{Solved}
 use Rattle.pg_span.specs.declared.solved.Solved.TheVariants as solved
 use Rattle.pg_span.specs.Game.{span_rules_of, marks_at, span_class}
-use Rattle.pg_span.specs.Solved.{AreDueClaims, SolvedHolds, claims_of, named, parts_claim}
-use Rattle.pg_span.specs.Solved.{solved_class, trees_claim}
-use Rattle.pg_span.specs.Valid.{AreTreesOfGame, ArePartsOfGame, IsBodyAt, IsSpanClaimValid}
-use Rattle.pg_span.specs.Valid.{IsSpanValid}
+use Rattle.pg_span.specs.Solved.{SolvedHolds, named}
+use Rattle.pg_span.specs.Solved.{solved_class}
+use Rattle.pg_span.specs.Valid.{AreTreesOfGame, ArePartsOfGame, IsBodyAt}
 
 pub x_wins : (s : Score) → reaches X Win s ≡ true → s ≡ XWins
 x_wins XWins k = refl

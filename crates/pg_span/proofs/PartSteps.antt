@@ -1,11 +1,10 @@
 -- Parts of vertices: what a reply and the answer to it keep.
-use Rattle.std.proofs.Common.{◌≡◌, ◌≢◌, ℕ, ◌+◌, ◌<◌, ◌≤◌, Bool, true, false, ◌&&◌, ◌⊎◌, Option}
+use Rattle.std.proofs.Common.{◌≡◌, ℕ, ◌+◌, ◌<◌, ◌≤◌, Bool, true, false, ◌&&◌, ◌⊎◌, Option}
 use Rattle.std.proofs.Common.{refl, inl, inr, sym, ap, ◌∙◌, subst, arith}
 use Rattle.std.specs.Prelude.{unwrap_or, List, slice_index}
-use Rattle.pg_span.proofs.Common.{cases_Bool, both_ways, and_parts, and_from, false_from_ne_true}
-use Rattle.pg_span.proofs.Common.{not-true, contains, plus, minus, below, count, IsWithin, Side, X}
-use Rattle.pg_span.proofs.Common.{Y, other, below_parts, below_from, minus_parts, minus_from}
-use Rattle.pg_span.proofs.Common.{plus_cases, plus_old, plus_new, count_le, count_plus, count_minus}
+use Rattle.pg_span.proofs.Common.{cases_Bool, and_parts}
+use Rattle.pg_span.proofs.Common.{not-true, contains, plus, minus, below, IsWithin, Side, X}
+use Rattle.pg_span.proofs.Common.{Y, other, below_parts, below_from, minus_parts}
 use Rattle.pg_span.proofs.Common.{Graph, edge_count, first_end_of, second_end_of, Position, is_free}
 use Rattle.pg_span.proofs.Common.{IsFreeEdge, lowest_free_edge, IsPlace, joins_all, crosses}
 use Rattle.pg_span.proofs.Common.{crossing, spare, AreParts, next, turn-next, free-next, x-plus}

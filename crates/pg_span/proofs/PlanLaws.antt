@@ -1,10 +1,11 @@
 -- The moves that the code makes are those of the definitions.
-use Rattle.std.proofs.Common.{◌≡◌, ℕ, ◌≤◌, Option, Some, None, inl, inr, sym, ap, ◌∙◌, subst, arith}
-use Rattle.std.specs.Prelude.{unwrap_or, ◌&&◌, List}
+use Rattle.std.proofs.Common.{◌≡◌, ℕ, ◌≤◌, Option, Some, None, inl, inr, sym, ap, ◌∙◌, subst}
+use Rattle.std.specs.Prelude.{◌&&◌, List}
 use Rattle.pg_span.proofs.Common.{cases_Bool, FinSet, contains, remove, nat_cmp, Graph, edge_count}
-use Rattle.pg_span.proofs.Common.{first_end_of, second_end_of, joins_in, Position, is_free, differ}
-use Rattle.pg_span.proofs.Common.{lowest_free_edge, with_set, answered_edge, short_edge, claimed}
-use Rattle.pg_span.proofs.Common.{trees_answer, Answered, short_reply, find_below-cases}
+use Rattle.pg_span.proofs.Common.{first_end_of, second_end_of, joins_in, Position, differ, with_set}
+use Rattle.pg_span.proofs.Common.{answered_edge, short_edge, claimed, trees_answer, Answered}
+use Rattle.pg_span.proofs.Common.{short_reply}
+use Rattle.pg_switch.proofs.Finding.{free-bound, found-bound}
 use Rattle.pg_span.specs.declared.cert.SpanBody.{SpanBody}
 use Rattle.pg_span.specs.declared.cert.SpanBody.TheVariants.{Trees, Parts}
 use Rattle.pg_span.specs.declared.plan.TreePlan.{TreePlan}
@@ -12,35 +13,15 @@ use Rattle.pg_span.specs.Answers.{SpanMove, span_move, parts_edge}
 use Rattle.pg_span.specs.Plan.{plan_of}
 
 -- no answer is above the number of edges
-free-bound : (h : Graph) (p : Position) → lowest_free_edge h p ≤ edge_count h
-free-bound h p = elim (find_below-cases (is_free p) (edge_count h)) [
-  | inl found ↦
-      let e : lowest_free_edge h p ≡ found.number = ap (λ (r : Option ℕ). unwrap_or r 0) found.is in
-      omega (arith, e, found.low)
-  | inr none ↦
-      let e : lowest_free_edge h p ≡ 0 = ap (λ (r : Option ℕ). unwrap_or r 0) none.1 in
-      omega (arith, e)
-]
-
 reply-bound : (h : Graph) (p : Position) (a1 a2 : FinSet nat_cmp) (x : ℕ)
     → short_reply h p a1 a2 x ≤ edge_count h
 reply-bound h p a1 a2 x =
     let set = with_set p (remove a1 x) in
     let u = first_end_of h x in
-    elim (find_below-cases (λ k.
+    found-bound (λ k.
     contains a2 k
     && differ (joins_in h set u (first_end_of h k)) (joins_in h set u (second_end_of h k)))
-    (edge_count h)) [
-      | inl found ↦
-          let e : short_reply h p a1 a2 x ≡ found.number =
-          ap (λ (r : Option ℕ). unwrap_or r (lowest_free_edge h p)) found.is in
-          omega (arith, e, found.low)
-      | inr none ↦
-          let e : short_reply h p a1 a2 x ≡ lowest_free_edge h p =
-          ap (λ (r : Option ℕ). unwrap_or r (lowest_free_edge h p)) none.1 in
-          let low = free-bound h p in
-          omega (arith, e, low)
-    ]
+    (edge_count h) p
 
 pub trees-bound : (h : Graph) (p : Position) (a1 a2 : FinSet nat_cmp) (x : ℕ)
     → short_edge h p a1 a2 x ≤ edge_count h
@@ -48,7 +29,7 @@ trees-bound h p a1 a2 x = elim (cases_Bool (contains a1 x)) [
   | inl i ↦ rw i (reply-bound h p a1 a2 x)
   | inr o ↦ elim (cases_Bool (contains a2 x)) [
     | inl i ↦ rw (o, i) (reply-bound h p a2 a1 x)
-    | inr o2 ↦ rw (o, o2) (free-bound h p)
+    | inr o2 ↦ rw (o, o2) (free-bound (edge_count h) p)
   ]
 ]
 

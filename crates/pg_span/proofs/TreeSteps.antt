@@ -1,21 +1,19 @@
 -- Two sets of edges each of which joins every two vertices with X's edges: what the answer to a
 -- lost edge keeps.
-use Rattle.std.proofs.Common.{◌≡◌, ◌≢◌, ℕ, ◌<◌, ◌≤◌, Bool, true, false, Option, inl, inr, sym, ap}
-use Rattle.std.proofs.Common.{◌∙◌, subst, subst₂, arith}
-use Rattle.std.specs.Prelude.{unwrap_or}
-use Rattle.pg_span.proofs.Common.{cases_Bool, cases_eq, both_ways, false_from_ne_true, FinSet}
-use Rattle.pg_span.proofs.Common.{contains, remove, nat_cmp, plus, minus, either, IsWithin}
-use Rattle.pg_span.proofs.Common.{AreBelow, same_sets, contains-remove_minus, minus_parts}
-use Rattle.pg_span.proofs.Common.{minus_from, plus_new, either_cases, either_left, sets, Graph}
-use Rattle.pg_span.proofs.Common.{IsGraph, edge_count, spans_in, first_end_of, second_end_of}
-use Rattle.pg_span.proofs.Common.{IsJoinedIn, AreEdges, Crosses, crosses-unspanned, uncrossed_joins}
+use Rattle.std.proofs.Common.{◌≡◌, ℕ, ◌<◌, ◌≤◌, Bool, true, false, inl, inr, subst, arith}
+use Rattle.pg_span.proofs.Common.{cases_eq, both_ways, false_from_ne_true, FinSet, contains}
+use Rattle.pg_span.proofs.Common.{nat_cmp, plus, minus, either, IsWithin, AreBelow, minus_parts}
+use Rattle.pg_span.proofs.Common.{plus_new, either_cases, either_left, sets, Graph, IsGraph}
+use Rattle.pg_span.proofs.Common.{edge_count, spans_in, first_end_of, second_end_of, IsJoinedIn}
+use Rattle.pg_span.proofs.Common.{AreEdges, Crosses, crosses-unspanned, uncrossed_joins}
 use Rattle.pg_span.proofs.Common.{IsSpan-graph, spans_in-sound, spans_in-complete, ends_in_range}
 use Rattle.pg_span.proofs.Common.{joined_on, joined_back, joined_by, joined_edge, joined_more}
-use Rattle.pg_span.proofs.Common.{Position, IsFreeEdge, with_set, lowest_free_edge, short_edge}
-use Rattle.pg_span.proofs.Common.{short_reply, crossing-cases, lowest_free-free}
+use Rattle.pg_span.proofs.Common.{Position, IsFreeEdge, lowest_free_edge, short_edge, short_reply}
+use Rattle.pg_span.proofs.Common.{lowest_free-free}
 use Rattle.pg_graph.proofs.Swap.{spans_trade}
 use Rattle.pg_span.proofs.Connects.{JoinsAll}
-use Rattle.pg_switch.proofs.EdgeSets.{with_set-edges}
+use Rattle.pg_switch.proofs.AnswerLaws.{left-edges, crossing-replies}
+use Rattle.pg_switch.proofs.LostElement.{AreLeft, IsAnswer, IsReply, answer-kept}
 
 -- with s each of two disjoint sets joins every two vertices
 pub record AreJoining (h : Graph) (s a1 a2 : ℕ → Bool) : Type 0 where
@@ -132,134 +130,10 @@ joining-uncrossed h s a1 a2 x graph small small1 low t none = record {
 
 -- ---- the answer
 
-minus_absent : (a : ℕ → Bool) (x : ℕ) → a x ≡ false → minus a x ≡ a
-minus_absent a x out = same_sets (minus a x) a (λ z k. (minus_parts a x z k).0)
-    (λ z k. minus_from a x z k (λ e. both_ways _ out (subst (λ (w : ℕ). a w ≡ true) (sym e) k)))
-
-absent : (a : ℕ → Bool) (x y : ℕ) → a y ≡ false → minus a x y ≡ false
-absent a x y out = false_from_ne_true _ (λ k. both_ways _ out (minus_parts a x y k).0)
-
--- both x and y taken away
-pub remove-both : (s : FinSet nat_cmp) (x y : ℕ)
-    → contains (remove (remove s x) y) ≡ minus (minus (contains s) x) y
-remove-both s x y = contains-remove_minus (remove s x) y
-    ∙ ap (λ (a : ℕ → Bool). minus a y) (contains-remove_minus s x)
-
 -- sets that stand but for x
 pub record TreesDue (h : Graph) (p : Position) (a1 a2 : FinSet nat_cmp) (x : ℕ) : Type 0 where
   pub joining : AreJoining h (contains p.x) (contains a1) (contains a2)
-  pub first : (f : ℕ) → contains a1 f ≡ true → f ≢ x → IsFreeEdge h p f
-  pub second : (f : ℕ) → contains a2 f ≡ true → f ≢ x → IsFreeEdge h p f
-  pub bound : x ≤ edge_count h
-
--- the edge is free, and the sets stand again once it is claimed
-pub record IsTreesEdge (h : Graph) (p : Position) (a1 a2 : FinSet nat_cmp) (x y : ℕ) : Type 0 where
-  pub free : IsFreeEdge h p y
-  pub joining : AreJoining h (plus (contains p.x) y) (minus (minus (contains a1) x) y)
-      (minus (minus (contains a2) x) y)
-
-due-other : (h : Graph) (p : Position) (a1 a2 : FinSet nat_cmp) (x : ℕ)
-    → TreesDue h p a1 a2 x
-    → TreesDue h p a2 a1 x
-due-other h p a1 a2 x d = record {
-  joining = joining-other h (contains p.x) (contains a1) (contains a2) d.joining;
-  first = d.second;
-  second = d.first;
-  bound = d.bound;
-}
-
-edge-other : (h : Graph) (p : Position) (a1 a2 : FinSet nat_cmp) (x y : ℕ)
-    → IsTreesEdge h p a2 a1 x y
-    → IsTreesEdge h p a1 a2 x y
-edge-other h p a1 a2 x y s = record {
-  free = s.free;
-  joining = joining-other h (plus (contains p.x) y) (minus (minus (contains a2) x) y)
-      (minus (minus (contains a1) x) y) s.joining;
-}
-
-pub due-edges : (h : Graph) (p : Position) (a1 a2 : FinSet nat_cmp) (x : ℕ)
-    → TreesDue h p a1 a2 x
-    → AreEdges h (contains a1)
-due-edges h p a1 a2 x d f k = elim (cases_eq f x) [
-  | inl e ↦ let low = d.bound in omega arith
-  | inr ne ↦ let low = (d.first f k ne).0 in omega arith
-]
-
-pub due-edges_two : (h : Graph) (p : Position) (a1 a2 : FinSet nat_cmp) (x : ℕ)
-    → TreesDue h p a1 a2 x
-    → AreEdges h (contains a2)
-due-edges_two h p a1 a2 x d = due-edges h p a2 a1 x (due-other h p a1 a2 x d)
-
--- x was in the first set
-trees-first : (h : Graph) (p : Position) (a1 a2 : FinSet nat_cmp) (x z : ℕ)
-    → IsGraph h
-    → AreBelow p.x (edge_count h)
-    → TreesDue h p a1 a2 x
-    → contains a1 x ≡ true
-    → IsFreeEdge h p z
-    → IsTreesEdge h p a1 a2 x (short_reply h p a1 a2 x)
-trees-first h p a1 a2 x z graph small d ax fz =
-    let s = contains p.x in
-    let edges : AreEdges h s = λ v k. let low = small v k in omega arith in
-    let edges1 = due-edges h p a1 a2 x d in
-    let not2 : contains a2 x ≡ false = d.joining.apart x ax in
-    let set = with_set p (remove a1 x) in
-    let is_set : set ≡ either s (minus (contains a1) x) =
-    ap (λ (a : ℕ → Bool). either s a) (contains-remove_minus a1 x) in
-    let edges_left : AreEdges h (contains (remove a1 x)) = λ f k. edges1 f
-    (minus_parts (contains a1) x f
-    (subst (λ (a : ℕ → Bool). a f ≡ true) (contains-remove_minus a1 x) k)).0 in
-    let whole2 = minus_absent (contains a2) x not2 in
-    elim (crossing-cases h set (first_end_of h x) a2
-    (with_set-edges h p (remove a1 x) small edges_left)) [
-      | inl found ↦
-          let y = found.0 in
-          let y_is : short_reply h p a1 a2 x ≡ y =
-          ap (λ (r : Option ℕ). unwrap_or r (lowest_free_edge h p)) found.4 in
-          let crosses = subst (λ (a : ℕ → Bool). Crosses h a (first_end_of h x) y) is_set found.3 in
-          let y_free = d.second y found.2
-          (λ e. both_ways _ not2 (subst (λ (w : ℕ). contains a2 w ≡ true) e found.2)) in
-          let not1 : contains a1 y ≡ false =
-          false_from_ne_true _ (λ k. both_ways _ (d.joining.apart y k) found.2) in
-          let kept = joining-crossed h s (contains a1) (contains a2) (first_end_of h x) x y graph
-          edges edges1 d.joining ax found.2 (let low = y_free.0 in omega arith) crosses in
-          subst (λ (w : ℕ). IsTreesEdge h p a1 a2 x w) (sym y_is) (record {
-            free = y_free;
-            joining = subst₂ (λ (a b : ℕ → Bool). AreJoining h (plus s y) a (minus b y))
-                (sym (minus_absent (minus (contains a1) x) y (absent (contains a1) x y not1)))
-                (sym whole2) kept;
-          })
-      | inr none ↦
-          let y = lowest_free_edge h p in
-          let y_is : short_reply h p a1 a2 x ≡ y =
-          ap (λ (r : Option ℕ). unwrap_or r (lowest_free_edge h p)) none.1 in
-          let uncrossed = joining-uncrossed h s (contains a1)
-          (contains a2) x graph edges edges1 d.bound d.joining (λ v k c. none.0 v
-          (d.second v k (λ e. both_ways _ not2 (subst (λ (w : ℕ). contains a2 w ≡ true) e k))).0 k
-          (subst (λ (a : ℕ → Bool). Crosses h a (first_end_of h x) v) (sym is_set) c)) in
-          subst (λ (w : ℕ). IsTreesEdge h p a1 a2 x w) (sym y_is) (record {
-            free = lowest_free-free h p z fz;
-            joining = subst (λ (b : ℕ → Bool).
-                AreJoining h (plus s y) (minus (minus (contains a1) x) y) (minus b y)) (sym whole2)
-                (joining-claimed h s (minus (contains a1) x) (contains a2) y uncrossed);
-          })
-    ]
-
-trees-neither : (h : Graph) (p : Position) (a1 a2 : FinSet nat_cmp) (x z : ℕ)
-    → TreesDue h p a1 a2 x
-    → contains a1 x ≡ false
-    → contains a2 x ≡ false
-    → IsFreeEdge h p z
-    → IsTreesEdge h p a1 a2 x (lowest_free_edge h p)
-trees-neither h p a1 a2 x z d not1 not2 fz =
-    let y = lowest_free_edge h p in
-    record {
-      free = lowest_free-free h p z fz;
-      joining =
-          subst₂ (λ (a b : ℕ → Bool). AreJoining h (plus (contains p.x) y) (minus a y) (minus b y))
-          (sym (minus_absent (contains a1) x not1)) (sym (minus_absent (contains a2) x not2))
-          (joining-claimed h (contains p.x) (contains a1) (contains a2) y d.joining);
-    }
+  pub left : AreLeft (edge_count h) p a1 a2 x
 
 -- the answer keeps the sets
 pub trees-kept : (h : Graph) (p : Position) (a1 a2 : FinSet nat_cmp) (x z : ℕ)
@@ -267,13 +141,27 @@ pub trees-kept : (h : Graph) (p : Position) (a1 a2 : FinSet nat_cmp) (x z : ℕ)
     → AreBelow p.x (edge_count h)
     → TreesDue h p a1 a2 x
     → IsFreeEdge h p z
-    → IsTreesEdge h p a1 a2 x (short_edge h p a1 a2 x)
-trees-kept h p a1 a2 x z graph small d fz = elim (cases_Bool (contains a1 x)) [
-  | inl i ↦ rw i (trees-first h p a1 a2 x z graph small d i fz)
-  | inr o ↦ elim (cases_Bool (contains a2 x)) [
-    | inl i ↦ rw (o, i)
-        (edge-other h p a1 a2 x _
-        (trees-first h p a2 a1 x z graph small (due-other h p a1 a2 x d) i fz))
-    | inr o2 ↦ rw (o, o2) (trees-neither h p a1 a2 x z d o o2 fz)
-  ]
-]
+    → IsAnswer (edge_count h) plus (AreJoining h) p (contains p.x) x a1 a2
+    (short_edge h p a1 a2 x)
+trees-kept h p a1 a2 x z graph small d fz = answer-kept (edge_count h) plus (AreJoining h) p
+    (contains p.x) x (record {
+      apart = λ s b1 b2 t. t.apart;
+      other = λ s b1 b2 t. joining-other h s b1 b2 t;
+      claimed = λ s b1 b2 v low t. joining-claimed h s b1 b2 v t;
+    }) (λ one another. short_reply h p one another x) (lowest_free_edge h p) a1 a2 replies
+    (lowest_free-free h p z fz) d.joining d.left
+  where
+    edges : AreEdges h (contains p.x)
+    edges v k = let low = small v k in omega arith
+
+    replies : (one another : FinSet nat_cmp)
+        → AreJoining h (contains p.x) (contains one) (contains another)
+        → AreLeft (edge_count h) p one another x
+        → contains one x ≡ true
+        → IsReply (edge_count h) plus (AreJoining h) p (contains p.x) x one another
+        (short_reply h p one another x)
+    replies one another t left on = crossing-replies h (AreJoining h) p x z one another small fz
+        left (t.apart x on) (λ y low k c. joining-crossed h (contains p.x) (contains one)
+        (contains another) (first_end_of h x) x y graph edges (left-edges h p one another x left) t
+        on k (omega arith) c) (λ none. joining-uncrossed h (contains p.x) (contains one)
+        (contains another) x graph edges (left-edges h p one another x left) left.bound t none)

@@ -1,8 +1,8 @@
 -- What is seen of a player of a connectivity game, and what it does.
-use Rattle.std.specs.Prelude.{◌≡◌, ◌⊎◌, ℕ, ◌<◌, Bool, true, false, ◌&&◌, List, Option, Some, None}
-use Rattle.std.specs.Prelude.{Ok, find}
-use Rattle.pg_span.specs.Prelude.{other, is_same_side, Win, Side, edge_count, Position, is_free}
-use Rattle.pg_span.specs.Prelude.{judged_by, moved, IsPlayBy, played_by, ForcesBy, IsPlace}
+use Rattle.std.specs.Prelude.{◌≡◌, ◌⊎◌, ℕ, ◌<◌, Bool, true, false, ◌&&◌, Option, Some, None, Ok}
+use Rattle.std.specs.Prelude.{find}
+use Rattle.pg_span.specs.Prelude.{other, is_same_side, Side, edge_count, Position, is_free}
+use Rattle.pg_span.specs.Prelude.{judged_by, moved, IsOnPlan}
 use Rattle.pg_span.specs.declared.cert.SpanBody.{SpanBody}
 use Rattle.pg_span.specs.declared.cert.SpanCert.{SpanCert}
 use Rattle.pg_span.specs.declared.cert.SpanClaim.{SpanClaim}
@@ -71,16 +71,8 @@ AnswersInSpan before now v (Some w) =
 
 -- ---- what a player keeps
 
--- the position is that after a legal play from the game's marks
-pub record IsSpanReached (g : SpanGame) (p : Position) : Type 0 where
-  pub moves : List ℕ
-  pub legal : IsPlayBy (span_rules_of g) (span_start g) moves
-  pub leads : played_by (span_rules_of g) (span_start g) moves ≡ p
-
 -- the position is reached by a legal play, the side forces its win from it, and while the game goes
 -- on the plan holds
-pub record IsOnPlan (g : SpanGame) (side : Side) (p : Position) (plan : SpanBody) : Type 0 where
-  pub place : IsPlace (edge_count g.graph) p
-  pub reached : IsSpanReached g p
-  pub forced : ForcesBy (span_rules_of g) p side Win
-  pub holds : (span_rules_of g).over p ≡ false → IsBodyAt g p side plan
+abbrev pub IsOnSpanPlan : SpanGame → Side → Position → SpanBody → Type 0
+IsOnSpanPlan g side p plan =
+    IsOnPlan (span_rules_of g) (span_start g) (λ q. IsBodyAt g q side plan) side p

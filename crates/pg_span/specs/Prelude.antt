@@ -14,8 +14,7 @@ unfoldable pub use Rattle.pg_exchange.specs.Forest.{elements_of}
 pub use Rattle.pg_exchange.specs.Matroid.{Matroid}
 pub use Rattle.pg_game.specs.Judging.{ending_by, judged_by}
 pub use Rattle.pg_game.specs.Position.{is_free}
-pub use Rattle.pg_game.specs.Rules.{ForcesBy, IsEnding, IsPlayBy, Rules, moved, played_by, reaches}
-pub use Rattle.pg_game.specs.Rules.{value_by}
+pub use Rattle.pg_game.specs.Rules.{ForcesBy, IsPlayBy, Rules, moved, played_by, reaches, value_by}
 pub use Rattle.pg_game.specs.Trees.{Answered, IsFreeEdge, answered_edge, claimed, differ}
 pub use Rattle.pg_game.specs.Trees.{lowest_free_edge, short_edge, with_set}
 unfoldable pub use Rattle.pg_game.specs.Trees.{trees_answer}
@@ -29,10 +28,10 @@ pub use Rattle.pg_graph.specs.Span.{IsBase}
 pub use Rattle.pg_graph.specs.declared.graph.Graph.{Graph}
 pub use Rattle.pg_switch.specs.Claims.{IsPlace, kept}
 pub use Rattle.pg_switch.specs.Replies.{short_reply}
+pub use Rattle.pg_switch.specs.Seat.{HeldUntilReply, IsDue, IsOnPlan}
 pub use Rattle.pg_switch.specs.Span.{AreJoiningTrees, AreParts, IsFirst, connectivity_rules}
 pub use Rattle.pg_switch.specs.Span.{crosses, crossing, joins_all, spare, with_first}
 unfoldable pub use Rattle.pg_switch.specs.Span.{image, joins_below, joins_pairs}
-pub use Rattle.std.specs.Coded.{Coded-set, coded_bool, coded_ℕ}
 pub use Rattle.std.specs.FinSet.{FinSet, contains, insert, remove}
 pub use Rattle.std.specs.List.{All, range_with_len}
 pub use Rattle.std.specs.Ordering.{nat_cmp}

@@ -1,16 +1,15 @@
 //! A player's own moves by trees and by parts.
-ghost use Rattle.std.specs.Prelude.{◌≡◌, ◌<◌, Option, Some, None};
-ghost use Rattle.pg_span.specs.Prelude.{remove, AreBelow, IsGraph, edge_count, IsMadeFor};
-ghost use Rattle.pg_span.specs.Prelude.{answered_edge};
+ghost use Rattle.std.specs.Prelude.{◌≡◌, Option, Some, None};
+ghost use Rattle.pg_span.specs.Prelude.{AreBelow, IsGraph, edge_count, IsMadeFor};
 ghost use Rattle.pg_span.specs.Answers.{span_move};
 ghost use Rattle.pg_span.specs.Plan.{plan_of, AreTreesOf, IsMovable};
 
 use crate::answers::parts_edge;
 use crate::cert::SpanBody;
-use pg_base::{MAX_MEMBERS, PointSet};
+use pg_base::PointSet;
 use pg_game::Position;
 use pg_graph::{Graph, Joiner};
-use pg_switch::short_edge;
+use pg_switch::{answered_edge, short_edge, without_both};
 
 /// What is left of a claim's trees.
 #[derive(Clone, Copy, Debug)]
@@ -48,29 +47,6 @@ pub(crate) fn trees_of(body: &SpanBody) -> TreePlan
             a2: PointSet::empty(),
         },
     }
-}
-
-/// The edge that is answered: the last reply, else the number after the last edge.
-fn answered_edge(graph: &Graph, last: Option<u16>) -> u16
-    requires { IsGraph graph.now }
-    ensures { result ≡ answered_edge graph.now last }
-{
-    match last {
-        Some(x) => x,
-        None => graph.edge_count(),
-    }
-}
-
-/// The set without the lost and the claimed edge.
-fn without_both(set: &PointSet, lost: u16, claimed: u16) -> PointSet
-    requires lost { lost < MAX_MEMBERS }
-    requires claimed { claimed < MAX_MEMBERS }
-    ensures { result ≡ remove (remove set.now lost) claimed }
-{
-    let mut others = *set;
-    others.take(lost);
-    others.take(claimed);
-    others
 }
 
 /// The own move by trees.

@@ -5,7 +5,7 @@ ghost use Rattle.pg_span.specs.Prelude.{Win, ending_by, judged_by, reaches, Forc
 ghost use Rattle.pg_span.specs.Prelude.{played_by};
 ghost use Rattle.pg_span.specs.Player.{is_span_claim_of, chosen_span_claim, span_start, SpanWaits};
 ghost use Rattle.pg_span.specs.Player.{MakesSpanMove, MovesInSpan, AnswersInSpan};
-ghost use Rattle.pg_span.specs.Playing.{IsDue};
+ghost use Rattle.pg_span.specs.Playing.{IsSpanDue};
 ghost use Rattle.pg_span.specs.Game.{span_rules_of};
 ghost use Rattle.pg_span.specs.Valid.{IsBodyAt};
 
@@ -190,7 +190,7 @@ impl<'a> SpanPlayer<'a> {
     /// Makes the own move at p after the last reply, where the player is to move in a game that
     /// goes on.
     fn make_move(&mut self, p: &Position, last: Option<u16>) -> u16
-        requires { IsDue self.old.game self.old.side p.now self.old.plan last }
+        requires { IsSpanDue self.old.game self.old.side p.now self.old.plan last }
         ensures { MakesSpanMove (record {
           game = self.old.game;
           side = self.old.side;

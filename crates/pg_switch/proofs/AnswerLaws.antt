@@ -1,323 +1,110 @@
 -- The answers by trees and by cuts are free edges, and the sets hold after them.
-use Rattle.std.proofs.Common.{◌≡◌, ◌≢◌, ℕ, ◌<◌, ◌≤◌, suc, Bool, true, false, Option, Some, None}
-use Rattle.std.proofs.Common.{inl, inr, sym, ap, ◌∙◌, subst, subst₂, arith}
+use Rattle.std.proofs.Common.{◌≡◌, ℕ, ◌<◌, suc, Bool, true, false, Option, Some, None, inl, inr}
+use Rattle.std.proofs.Common.{sym}
+use Rattle.std.proofs.Common.{ap, ◌∙◌, subst, arith}
 use Rattle.std.specs.Prelude.{unwrap_or}
 use Rattle.pg_switch.proofs.Common.{cases_Bool, cases_eq, both_ways, false_from_ne_true, FinSet}
 use Rattle.pg_switch.proofs.Common.{contains, remove, nat_cmp, plus, minus, either, outside, Side}
-use Rattle.pg_switch.proofs.Common.{X, Y, other, same_sets, contains-remove_minus, minus_parts}
-use Rattle.pg_switch.proofs.Common.{minus_from, Graph, edge_count, spans_in, first_end_of}
-use Rattle.pg_switch.proofs.Common.{second_end_of, joins_in, AreEdges, Crosses, IsTrees, IsCuts}
-use Rattle.pg_switch.proofs.Common.{IsSpan-graph, spans_in-joins, IsTrees-other, IsTrees-claimed}
-use Rattle.pg_switch.proofs.Common.{Field, Game, Position, field_points, terminals_joined, AreBelow}
-use Rattle.pg_switch.proofs.Common.{point_count, is_over, after, IsPosition, IsFreeEdge}
-use Rattle.pg_switch.proofs.Common.{AreFreeEdges, AreFreeWithE, AreTrees, AreCuts, TreesHold}
-use Rattle.pg_switch.proofs.Common.{TreesHoldOn, CutsHold, CutsHoldOn, with_set, without_set}
-use Rattle.pg_switch.proofs.Common.{lowest_free_edge, answered_edge, short_edge, cut_edge}
-use Rattle.pg_switch.proofs.Common.{free-stays}
+use Rattle.pg_switch.proofs.Common.{X, Y, other, contains-remove_minus, minus_parts, Graph}
+use Rattle.pg_switch.proofs.Common.{edge_count, spans_in, first_end_of, second_end_of, joins_in}
+use Rattle.pg_switch.proofs.Common.{AreEdges, Crosses, IsSpan-graph, spans_in-joins, Field, Game}
+use Rattle.pg_switch.proofs.Common.{Position, field_points, terminals_joined, AreBelow, point_count}
+use Rattle.pg_switch.proofs.Common.{is_over, after, rules_of, IsPosition, IsFreeEdge, AreFreeEdges}
+use Rattle.pg_switch.proofs.Common.{AreFreeWithE, AreTrees, AreCuts, TreesHoldOn, CutsHoldOn}
+use Rattle.pg_switch.proofs.Common.{with_set, without_set, lowest_free_edge, answered_edge}
+use Rattle.pg_switch.proofs.Common.{short_edge, cut_edge}
 use Rattle.pg_graph.proofs.TreeAnswers.{IsTrees-crossed, IsTrees-uncrossed}
-use Rattle.pg_graph.proofs.Cuts.{IsCuts-other, IsCuts-claimed, IsCuts-dropped, IsCuts-answered}
-use Rattle.pg_graph.proofs.Cuts.{find_parting}
+use Rattle.pg_graph.proofs.Cuts.{IsCuts-dropped, IsCuts-answered, find_parting}
 use Rattle.pg_game.specs.declared.field.Field.TheVariants.{Graph as OnGraph}
-use Rattle.pg_game.proofs.Moves.{side≢other}
 use Rattle.pg_game.proofs.Strategy.{free_point}
 use Rattle.pg_switch.specs.Replies.{short_reply, cut_reply, HeldUntil}
-use Rattle.pg_switch.proofs.ClaimLaws.{y-next_x, x-plus, x-same, kept-same, kept-minus}
+use Rattle.pg_switch.proofs.ClaimLaws.{x-next_y, y-next_x}
 use Rattle.pg_switch.proofs.EdgeSets.{left_edges, left_edges-below, with_set-edges, IsTrees-from}
 use Rattle.pg_switch.proofs.EdgeSets.{AreTrees-from, IsCuts-from, AreCuts-from, without-agree}
 use Rattle.pg_switch.proofs.EdgeSets.{minus-agree}
 use Rattle.pg_switch.proofs.Finding.{crossing-cases, parting-cases, parting-apart, joins-agree}
 use Rattle.pg_switch.proofs.Finding.{lowest_free-free}
+use Rattle.pg_switch.proofs.LostElement.{AreLeft, IsAnswer, IsReply, AreDue, StandBy, held_by}
+use Rattle.pg_switch.proofs.LostElement.{grown_by, IsStanding-by, answer-kept, left-free, due-now}
+use Rattle.pg_switch.proofs.LostElement.{due-after, stand-next}
 
--- a number that isn't a member takes nothing away
-minus_absent : (a : ℕ → Bool) (x : ℕ) → a x ≡ false → minus a x ≡ a
-minus_absent a x out = same_sets (minus a x) a (λ z k. (minus_parts a x z k).0)
-    (λ z k. minus_from a x z k (λ e. both_ways _ out (subst (λ (w : ℕ). a w ≡ true) (sym e) k)))
+-- ---- replies that cross
 
-absent : (a : ℕ → Bool) (x y : ℕ) → a y ≡ false → minus a x y ≡ false
-absent a x y out = false_from_ne_true _ (λ k. both_ways _ out (minus_parts a x y k).0)
-
--- both x and y taken away
-remove-both : (s : FinSet nat_cmp) (x y : ℕ)
-    → contains (remove (remove s x) y) ≡ minus (minus (contains s) x) y
-remove-both s x y = contains-remove_minus (remove s x) y
-    ∙ ap (λ (a : ℕ → Bool). minus a y) (contains-remove_minus s x)
-
--- ---- what is left of two sets when x was lost
-
-pub record AreLeft (h : Graph) (p : Position) (a1 a2 : FinSet nat_cmp) (x : ℕ) : Type 0 where
-  pub first : (f : ℕ) → contains a1 f ≡ true → f ≢ x → IsFreeEdge h p f
-  pub second : (f : ℕ) → contains a2 f ≡ true → f ≢ x → IsFreeEdge h p f
-  pub bound : x ≤ edge_count h
-
-left-other : (h : Graph) (p : Position) (a1 a2 : FinSet nat_cmp) (x : ℕ)
-    → AreLeft h p a1 a2 x
-    → AreLeft h p a2 a1 x
-left-other h p a1 a2 x l = record { first = l.second; second = l.first; bound = l.bound }
-
-left-edges : (h : Graph) (p : Position) (a1 a2 : FinSet nat_cmp) (x : ℕ)
-    → AreLeft h p a1 a2 x
+-- members are edges, or e
+pub left-edges : (h : Graph) (p : Position) (a1 a2 : FinSet nat_cmp) (x : ℕ)
+    → AreLeft (edge_count h) p a1 a2 x
     → AreEdges h (contains a1)
 left-edges h p a1 a2 x l f k = elim (cases_eq f x) [
   | inl e ↦ let low = l.bound in omega arith
   | inr ne ↦ let low = (l.first f k ne).0 in omega arith
 ]
 
--- no reply came, and e is answered
-left-now : (h : Graph) (p : Position) (side : Side) (a1 a2 : FinSet nat_cmp)
-    → AreFreeWithE h p side a1
-    → AreFreeEdges h p a2
-    → AreLeft h p a1 a2 (edge_count h)
-left-now h p side a1 a2 free1 free2 = record {
-  first = λ f k ne. elim (free1 f k) [ inl i ↦ i | inr e ↦ absurd (ne e.0) ];
-  second = λ f k ne. free2 f k;
-  bound = omega arith;
-}
-
--- the other side has just taken x
-left-after : (g : Game) (h : Graph) (q : Position) (side : Side) (a1 a2 : FinSet nat_cmp) (x : ℕ)
-    → q.turn ≡ other side
-    → x < edge_count h
-    → AreFreeWithE h q side a1
-    → AreFreeEdges h q a2
-    → AreLeft h (after g q x) a1 a2 x
-left-after g h q side a1 a2 x yours low free1 free2 = record {
-  first = λ f k ne. elim (free1 f k) [
-    | inl i ↦ (i.0, free-stays g q x f (λ e. ne (sym e)) i.1)
-    | inr e ↦ absurd (side≢other side (sym e.1 ∙ yours))
-  ];
-  second = λ f k ne. let i = free2 f k in (i.0, free-stays g q x f (λ e. ne (sym e)) i.1);
-  bound = omega arith;
-}
-
--- what is left of a set is free after the claim
-left_free : (g : Game) (h : Graph) (p : Position) (a : FinSet nat_cmp) (x y : ℕ)
-    → ((f : ℕ) → contains a f ≡ true → f ≢ x → IsFreeEdge h p f)
-    → (f : ℕ) → contains (remove (remove a x) y) f ≡ true
-    → IsFreeEdge h (after g p y) f
-left_free g h p a x y free f k =
-    let q = minus_parts (minus (contains a) x) y f
-    (subst (λ (s : ℕ → Bool). s f ≡ true) (remove-both a x y) k) in
-    let r = minus_parts (contains a) x f q.0 in
-    let i = free f r.0 (λ e. r.1 (sym e)) in
-    (i.0, free-stays g p y f q.1 i.1)
-
--- the first set is left without e
-pub left-without_e : (g : Game) (h : Graph) (p : Position) (a1 a2 f : FinSet nat_cmp) (x y : ℕ)
-    → g.field ≡ OnGraph h
-    → AreLeft h p a1 a2 x
-    → f ≡ remove (remove a1 x) y
-    → contains f (point_count g) ≡ false
-left-without_e g h p a1 a2 f x y on left is_f =
-    let points : point_count g ≡ edge_count h = ap field_points on in
-    false_from_ne_true _ (λ k.
-    let low =
-    (left_free g h p a1 x y left.first (point_count g)
-    (subst (λ (q : FinSet nat_cmp). contains q (point_count g) ≡ true) is_f k)).0 in
-    absurd (omega (arith, low, points)))
-
--- ---- Short
-
--- trees that stand but for x
-pub record TreesDue (h : Graph) (p : Position) (a1 a2 : FinSet nat_cmp) (x : ℕ) : Type 0 where
-  pub trees : IsTrees (spans_in h) (edge_count h) (contains p.x) (contains a1) (contains a2)
-  pub left : AreLeft h p a1 a2 x
-
--- the edge is free, and the sets stand again once it is claimed
-pub record IsShortEdge (h : Graph) (p : Position) (a1 a2 : FinSet nat_cmp) (x y : ℕ) : Type 0 where
-  pub free : IsFreeEdge h p y
-  pub trees : IsTrees (spans_in h) (edge_count h) (plus (contains p.x) y)
-      (minus (minus (contains a1) x) y) (minus (minus (contains a2) x) y)
-
-due-other : (h : Graph) (p : Position) (a1 a2 : FinSet nat_cmp) (x : ℕ)
-    → TreesDue h p a1 a2 x
-    → TreesDue h p a2 a1 x
-due-other h p a1 a2 x d = record {
-  trees =
-      IsTrees-other (spans_in h) (edge_count h) (contains p.x) (contains a1) (contains a2) d.trees;
-  left = left-other h p a1 a2 x d.left;
-}
-
-edge-other : (h : Graph) (p : Position) (a1 a2 : FinSet nat_cmp) (x y : ℕ)
-    → IsShortEdge h p a2 a1 x y
-    → IsShortEdge h p a1 a2 x y
-edge-other h p a1 a2 x y s = record {
-  free = s.free;
-  trees = IsTrees-other (spans_in h) (edge_count h) (plus (contains p.x) y)
-      (minus (minus (contains a2) x) y) (minus (minus (contains a1) x) y) s.trees;
-}
-
--- x was in the first set
-short-first : (h : Graph) (p : Position) (a1 a2 : FinSet nat_cmp) (x z : ℕ)
+-- where a member of the other set that crosses makes good for x, and where none crosses the one set
+-- needs no x
+pub crossing-replies : (h : Graph) (Stand : (ℕ → Bool) → (ℕ → Bool) → (ℕ → Bool) → Type 0)
+    (p : Position) (x z : ℕ) (one another : FinSet nat_cmp)
     → AreBelow p.x (edge_count h)
-    → TreesDue h p a1 a2 x
-    → contains a1 x ≡ true
     → IsFreeEdge h p z
-    → IsShortEdge h p a1 a2 x (short_reply h p a1 a2 x)
-short-first h p a1 a2 x z small d ax fz =
-    let m = edge_count h in
+    → AreLeft (edge_count h) p one another x
+    → contains another x ≡ false
+    → ((y : ℕ) → y < edge_count h
+    → contains another y ≡ true
+    → Crosses h (either (contains p.x) (minus (contains one) x)) (first_end_of h x) y
+    → Stand (plus (contains p.x) y) (minus (contains one) x) (minus (contains another) y))
+    → (((y : ℕ) → contains another y ≡ true
+    → Crosses h (either (contains p.x) (minus (contains one) x)) (first_end_of h x) y
+    → ⊥)
+    → Stand (contains p.x) (minus (contains one) x) (contains another))
+    → IsReply (edge_count h) plus Stand p (contains p.x) x one another
+    (short_reply h p one another x)
+crossing-replies h Stand p x z one another small fz left not2 crossed uncrossed =
     let s = contains p.x in
-    let edges1 = left-edges h p a1 a2 x d.left in
-    let not2 : contains a2 x ≡ false = d.trees.apart x ax in
-    let set = with_set p (remove a1 x) in
-    let is_set : set ≡ either s (minus (contains a1) x) =
-    ap (λ (a : ℕ → Bool). either s a) (contains-remove_minus a1 x) in
-    let edges_left : AreEdges h (contains (remove a1 x)) = λ f k. edges1 f
-    (minus_parts (contains a1) x f
-    (subst (λ (a : ℕ → Bool). a f ≡ true) (contains-remove_minus a1 x) k)).0 in
-    let whole2 = minus_absent (contains a2) x not2 in
-    elim (crossing-cases h set (first_end_of h x) a2
-    (with_set-edges h p (remove a1 x) small edges_left)) [
+    let set = with_set p (remove one x) in
+    let is_set : set ≡ either s (minus (contains one) x) =
+    ap (λ (a : ℕ → Bool). either s a) (contains-remove_minus one x) in
+    let edges_left : AreEdges h (contains (remove one x)) = λ f k.
+    left-edges h p one another x left f
+    (minus_parts (contains one) x f
+    (subst (λ (a : ℕ → Bool). a f ≡ true) (contains-remove_minus one x) k)).0 in
+    elim (crossing-cases h set (first_end_of h x) another
+    (with_set-edges h p (remove one x) small edges_left)) [
       | inl found ↦
-          let y = found.0 in
-          let y_is : short_reply h p a1 a2 x ≡ y =
+          let y_is : short_reply h p one another x ≡ found.0 =
           ap (λ (r : Option ℕ). unwrap_or r (lowest_free_edge h p)) found.4 in
-          let crosses = subst (λ (a : ℕ → Bool). Crosses h a (first_end_of h x) y) is_set found.3 in
-          let y_free = d.left.second y found.2
-          (λ e. both_ways _ not2 (subst (λ (w : ℕ). contains a2 w ≡ true) e found.2)) in
-          let not1 : contains a1 y ≡ false =
-          false_from_ne_true _ (λ k. both_ways _ (d.trees.apart y k) found.2) in
-          let kept = IsTrees-crossed h s (contains a1) (contains a2)
-          (first_end_of h x) x y d.trees ax found.2 crosses in
-          subst (λ (w : ℕ). IsShortEdge h p a1 a2 x w) (sym y_is) (record {
-            free = y_free;
-            trees = subst₂ (λ (a b : ℕ → Bool). IsTrees (spans_in h) m (plus s y) a (minus b y))
-                (sym (minus_absent (minus (contains a1) x) y (absent (contains a1) x y not1)))
-                (sym whole2) kept;
-          })
+          subst (λ (w : ℕ). IsReply (edge_count h) plus Stand p s x one another w) (sym y_is)
+          (inl (
+            found.2,
+            crossed found.0 found.1 found.2
+                (subst (λ (a : ℕ → Bool). Crosses h a (first_end_of h x) found.0) is_set found.3),
+          ))
       | inr none ↦
-          let y = lowest_free_edge h p in
-          let y_is : short_reply h p a1 a2 x ≡ y =
+          let y_is : short_reply h p one another x ≡ lowest_free_edge h p =
           ap (λ (r : Option ℕ). unwrap_or r (lowest_free_edge h p)) none.1 in
-          let uncrossed = IsTrees-uncrossed h s (contains a1) (contains a2) x d.trees ax
-          (λ v k. let low = small v k in omega arith) edges1 (λ v k c. none.0 v (d.left.second v k
-          (λ e. both_ways _ not2 (subst (λ (w : ℕ). contains a2 w ≡ true) e k))).0 k
-          (subst (λ (a : ℕ → Bool). Crosses h a (first_end_of h x) v) (sym is_set) c)) in
-          subst (λ (w : ℕ). IsShortEdge h p a1 a2 x w) (sym y_is) (record {
-            free = lowest_free-free h p z fz;
-            trees = subst (λ (b : ℕ → Bool). IsTrees (spans_in h) m (plus s y)
-                (minus (minus (contains a1) x) y) (minus b y)) (sym whole2)
-                (IsTrees-claimed (spans_in h) (IsSpan-graph h) m s (minus (contains a1) x)
-                (contains a2) y uncrossed);
-          })
+          subst (λ (w : ℕ). IsReply (edge_count h) plus Stand p s x one another w) (sym y_is)
+          (inr (
+            lowest_free-free h p z fz,
+            uncrossed (λ v k c. none.0 v (left.second v k
+                (λ e. both_ways _ not2 (subst (λ (w : ℕ). contains another w ≡ true) e k))).0 k
+                (subst (λ (a : ℕ → Bool). Crosses h a (first_end_of h x) v) (sym is_set) c)),
+          ))
     ]
 
-short-neither : (h : Graph) (p : Position) (a1 a2 : FinSet nat_cmp) (x z : ℕ)
-    → TreesDue h p a1 a2 x
-    → contains a1 x ≡ false
-    → contains a2 x ≡ false
-    → IsFreeEdge h p z
-    → IsShortEdge h p a1 a2 x (lowest_free_edge h p)
-short-neither h p a1 a2 x z d not1 not2 fz =
-    let m = edge_count h in
-    let s = contains p.x in
-    let y = lowest_free_edge h p in
-    record {
-      free = lowest_free-free h p z fz;
-      trees = subst₂ (λ (a b : ℕ → Bool). IsTrees (spans_in h) m (plus s y) (minus a y) (minus b y))
-          (sym (minus_absent (contains a1) x not1)) (sym (minus_absent (contains a2) x not2))
-          (IsTrees-claimed (spans_in h) (IsSpan-graph h) m s (contains a1) (contains a2) y d.trees);
-    }
-
-pub short-kept : (h : Graph) (p : Position) (a1 a2 : FinSet nat_cmp) (x z : ℕ)
+short-replies : (h : Graph) (p : Position) (x z : ℕ) (one another : FinSet nat_cmp)
     → AreBelow p.x (edge_count h)
-    → TreesDue h p a1 a2 x
     → IsFreeEdge h p z
-    → IsShortEdge h p a1 a2 x (short_edge h p a1 a2 x)
-short-kept h p a1 a2 x z small d fz = elim (cases_Bool (contains a1 x)) [
-  | inl i ↦ rw i (short-first h p a1 a2 x z small d i fz)
-  | inr o ↦ elim (cases_Bool (contains a2 x)) [
-    | inl i ↦ rw (o, i)
-        (edge-other h p a1 a2 x _ (short-first h p a2 a1 x z small (due-other h p a1 a2 x d) i fz))
-    | inr o2 ↦ rw (o, o2) (short-neither h p a1 a2 x z d o o2 fz)
-  ]
-]
+    → StandBy (spans_in h) (edge_count h) X (contains p.x) (contains one) (contains another)
+    → AreLeft (edge_count h) p one another x
+    → contains one x ≡ true
+    → IsReply (edge_count h) (grown_by X) (StandBy (spans_in h) (edge_count h) X) p (contains p.x) x
+    one another (short_reply h p one another x)
+short-replies h p x z one another small fz d left ax = crossing-replies h
+    (StandBy (spans_in h) (edge_count h) X) p x z one another small fz left (d.apart x ax)
+    (λ y low k c. IsTrees-crossed h (contains p.x) (contains one) (contains another)
+    (first_end_of h x) x y d ax k c) (λ none. IsTrees-uncrossed h (contains p.x) (contains one)
+    (contains another) x d ax (λ v k. let low = small v k in omega arith)
+    (left-edges h p one another x left) none)
 
-pub short-holds : (g : Game) (h : Graph) (p : Position) (a1 a2 : FinSet nat_cmp) (x y : ℕ)
-    → p.turn ≡ X
-    → TreesDue h p a1 a2 x
-    → IsShortEdge h p a1 a2 x y
-    → AreTrees h (after g p y) (remove (remove a1 x) y) (remove (remove a2 x) y)
-short-holds g h p a1 a2 x y mine d s =
-    AreTrees-from h (after g p y) (remove (remove a1 x) y) (remove (remove a2 x) y)
-    (λ f k. inl (left_free g h p a1 x y d.left.first f k)) (left_free g h p a2 x y d.left.second)
-    (subst
-    (λ (q : ℕ → Bool). IsTrees (spans_in h) (edge_count h) q (contains (remove (remove a1 x) y))
-    (contains (remove (remove a2 x) y))) (sym (x-plus (edge_count h) (terminals_joined h) p y mine))
-    (subst₂ (λ (a b : ℕ → Bool). IsTrees (spans_in h) (edge_count h) (plus (contains p.x) y) a b)
-    (sym (remove-both a1 x y)) (sym (remove-both a2 x y)) s.trees))
-
--- Y has just taken x
-due-after : (g : Game) (h : Graph) (q : Position) (a1 a2 : FinSet nat_cmp) (x : ℕ)
-    → q.turn ≡ Y
-    → x < edge_count h
-    → AreBelow (after g q x).x (edge_count h)
-    → AreTrees h q a1 a2
-    → TreesDue h (after g q x) a1 a2 x
-due-after g h q a1 a2 x yours low small t =
-    let same = x-same (edge_count h) (terminals_joined h) q x yours in
-    let before : AreBelow q.x (edge_count h) =
-    λ v k. small v (ap (λ (s : ℕ → Bool). s v) same ∙ k) in
-    record {
-      trees = subst
-          (λ (s : ℕ → Bool). IsTrees (spans_in h) (edge_count h) s (contains a1) (contains a2))
-          (sym same) (IsTrees-from h q a1 a2 before t);
-      left = left-after g h q X a1 a2 x yours low t.first_free t.second_free;
-    }
-
-pub trees-due : (g : Game) (h : Graph) (p : Position) (a1 a2 : FinSet nat_cmp) (last : Option ℕ)
-    → g.field ≡ OnGraph h
-    → IsPosition g p
-    → p.turn ≡ X
-    → HeldUntil g p (λ q. TreesHold g q a1 a2) last
-    → TreesDue h p a1 a2 (answered_edge h last)
-trees-due g h p a1 a2 None on position mine held =
-    let t : AreTrees h p a1 a2 = subst (λ (f : Field). TreesHoldOn f p a1 a2) on held in
-    record {
-      trees = IsTrees-from h p a1 a2
-          (λ v k. subst (λ (n : ℕ). v < n) (ap field_points on) (position.x_range v k)) t;
-      left = left-now h p X a1 a2 t.first_free t.second_free;
-    }
-trees-due g h p a1 a2 (Some x) on position mine held =
-    let b = held.before in
-    let t : AreTrees h b a1 a2 = subst (λ (f : Field). TreesHoldOn f b a1 a2) on held.held in
-    let points : point_count g ≡ edge_count h = ap field_points on in
-    let low : x < edge_count h = subst (λ (n : ℕ). x < n) points held.within in
-    let small : AreBelow (after g b x).x (edge_count h) = λ v k. subst (λ (n : ℕ). v < n) points
-    (position.x_range v (subst (λ (r : Position). contains r.x v ≡ true) (sym held.leads) k)) in
-    subst (λ (r : Position). TreesDue h r a1 a2 x) (sym held.leads)
-    (due-after g h b a1 a2 x (held.theirs ∙ ap other mine) low small t)
-
--- ---- Cut
-
-pub record CutsDue (h : Graph) (p : Position) (d1 d2 : FinSet nat_cmp) (x : ℕ) : Type 0 where
-  pub cuts : IsCuts (spans_in h) (edge_count h) (left_edges h p) (contains d1) (contains d2)
-  pub left : AreLeft h p d1 d2 x
-
-pub record IsCutEdge (h : Graph) (p : Position) (d1 d2 : FinSet nat_cmp) (x y : ℕ) : Type 0 where
-  pub free : IsFreeEdge h p y
-  pub cuts : IsCuts (spans_in h) (edge_count h) (minus (left_edges h p) y)
-      (minus (minus (contains d1) x) y) (minus (minus (contains d2) x) y)
-
-cuts_due-other : (h : Graph) (p : Position) (d1 d2 : FinSet nat_cmp) (x : ℕ)
-    → CutsDue h p d1 d2 x
-    → CutsDue h p d2 d1 x
-cuts_due-other h p d1 d2 x d = record {
-  cuts =
-      IsCuts-other (spans_in h) (edge_count h) (left_edges h p) (contains d1) (contains d2) d.cuts;
-  left = left-other h p d1 d2 x d.left;
-}
-
-cut_edge-other : (h : Graph) (p : Position) (d1 d2 : FinSet nat_cmp) (x y : ℕ)
-    → IsCutEdge h p d2 d1 x y
-    → IsCutEdge h p d1 d2 x y
-cut_edge-other h p d1 d2 x y s = record {
-  free = s.free;
-  cuts = IsCuts-other (spans_in h) (edge_count h) (minus (left_edges h p) y)
-      (minus (minus (contains d2) x) y) (minus (minus (contains d1) x) y) s.cuts;
-}
-
-not_e : (h : Graph) (p : Position) (y : ℕ) → IsFreeEdge h p y → y ≢ edge_count h
-not_e h p y free e = let low = free.0 in absurd (omega arith)
+-- ---- replies that part
 
 -- what the definition tests is what the other one spans
 test-spans : (h : Graph) (p : Position) (d : FinSet nat_cmp) (x : ℕ)
@@ -336,151 +123,208 @@ test-spans_minus h p d x y = joins-agree h (minus (without_set p d) y)
     (without-agree h p d))
     ∙ sym (spans_in-joins h (minus (outside (left_edges h p) (contains d)) y) x)
 
-cut-first : (h : Graph) (p : Position) (d1 d2 : FinSet nat_cmp) (x z : ℕ)
-    → CutsDue h p d1 d2 x
-    → contains d1 x ≡ true
+cut-replies : (h : Graph) (p : Position) (x z : ℕ) (one another : FinSet nat_cmp)
     → IsFreeEdge h p z
-    → IsCutEdge h p d1 d2 x (cut_reply h p d1 d2 x)
-cut-first h p d1 d2 x z d dx fz =
+    → StandBy (spans_in h) (edge_count h) Y (left_edges h p) (contains one) (contains another)
+    → AreLeft (edge_count h) p one another x
+    → contains one x ≡ true
+    → IsReply (edge_count h) (grown_by Y) (StandBy (spans_in h) (edge_count h) Y) p (left_edges h p)
+    x one another (cut_reply h p one another x)
+cut-replies h p x z one another fz d left dx =
     let m = edge_count h in
     let r = left_edges h p in
-    let wide = without_set p d1 in
+    let wide = without_set p one in
     let u = first_end_of h x in
     let v = second_end_of h x in
-    let not2 : contains d2 x ≡ false = d.cuts.apart x dx in
-    let whole2 = minus_absent (contains d2) x not2 in
-    let free2 : (y : ℕ) → contains d2 y ≡ true → IsFreeEdge h p y = λ y k. d.left.second y k
-    (λ e. both_ways _ not2 (subst (λ (w : ℕ). contains d2 w ≡ true) e k)) in
+    let not2 : contains another x ≡ false = d.apart x dx in
+    let free2 : (y : ℕ) → contains another y ≡ true → IsFreeEdge h p y = λ y k. left.second y k
+    (λ e. both_ways _ not2 (subst (λ (w : ℕ). contains another w ≡ true) e k)) in
     elim (cases_Bool (joins_in h wide u v)) [
-      | inl on ↦
-          let s = sym (test-spans h p d1 x) ∙ on in
-          elim (parting-cases h wide u v d2 on) [
-            | inl found ↦
-                let y = found.0 in
-                let y_is : cut_reply h p d1 d2 x ≡ y =
-                ap (λ (q : Option ℕ). unwrap_or q (lowest_free_edge h p)) found.4 in
-                let y_free = free2 y found.2 in
-                let not1 : contains d1 y ≡ false =
-                false_from_ne_true _ (λ k. both_ways _ (d.cuts.apart y k) found.2) in
-                let kept = IsCuts-answered (spans_in h) (IsSpan-graph h) m r (contains d1)
-                (contains d2) x y d.cuts dx found.2 (not_e h p y y_free)
-                (sym (test-spans_minus h p d1 x y) ∙ found.3) in
-                subst (λ (w : ℕ). IsCutEdge h p d1 d2 x w) (sym y_is) (record {
-                  free = y_free;
-                  cuts =
-                      subst₂ (λ (a b : ℕ → Bool). IsCuts (spans_in h) m (minus r y) a (minus b y))
-                      (sym (minus_absent (minus (contains d1) x) y (absent (contains d1) x y not1)))
-                      (sym whole2) kept;
-                })
-            | inr none ↦
-                let y = find_parting (spans_in h) (IsSpan-graph h) m r (contains d1) (contains d2) x
-                (suc m) (left_edges-below h p) d.cuts dx s in
-                absurd
-                (both_ways _ y.2
-                (sym (test-spans_minus h p d1 x y.0) ∙ none y.0 (free2 y.0 y.1).0 y.1))
-          ]
+      | inl on ↦ elim (parting-cases h wide u v another on) [
+        | inl found ↦
+            let y = found.0 in
+            let y_is : cut_reply h p one another x ≡ y =
+            ap (λ (q : Option ℕ). unwrap_or q (lowest_free_edge h p)) found.4 in
+            let low = (free2 y found.2).0 in
+            subst (λ (w : ℕ). IsReply m (grown_by Y) (StandBy (spans_in h) m Y) p r x one another w)
+            (sym y_is)
+            (inl (
+              found.2,
+              IsCuts-answered (spans_in h) (IsSpan-graph h) m r (contains one) (contains another) x
+                  y d dx found.2 (λ e. absurd (omega (arith, low, e)))
+                  (sym (test-spans_minus h p one x y) ∙ found.3),
+            ))
+        | inr none ↦
+            let y = find_parting (spans_in h) (IsSpan-graph h) m r (contains one) (contains another)
+            x (suc m) (left_edges-below h p) d dx (sym (test-spans h p one x) ∙ on) in
+            absurd
+            (both_ways _ y.2
+            (sym (test-spans_minus h p one x y.0) ∙ none y.0 (free2 y.0 y.1).0 y.1))
+      ]
       | inr off ↦
-          let y = lowest_free_edge h p in
-          let y_is : cut_reply h p d1 d2 x ≡ y =
+          let y_is : cut_reply h p one another x ≡ lowest_free_edge h p =
           ap (λ (q : Option ℕ). unwrap_or q (lowest_free_edge h p))
-          (parting-apart h wide u v d2 off) in
-          let y_free = lowest_free-free h p z fz in
-          let dropped = IsCuts-dropped (spans_in h) (IsSpan-graph h) m r (contains d1)
-          (contains d2) x d.cuts (sym (test-spans h p d1 x) ∙ off) in
-          subst (λ (w : ℕ). IsCutEdge h p d1 d2 x w) (sym y_is) (record {
-            free = y_free;
-            cuts = subst (λ (b : ℕ → Bool). IsCuts (spans_in h) m (minus r y)
-                (minus (minus (contains d1) x) y) (minus b y)) (sym whole2)
-                (IsCuts-claimed (spans_in h) (IsSpan-graph h) m r (minus (contains d1) x)
-                (contains d2) y dropped (not_e h p y y_free));
-          })
+          (parting-apart h wide u v another off) in
+          subst (λ (w : ℕ). IsReply m (grown_by Y) (StandBy (spans_in h) m Y) p r x one another w)
+          (sym y_is)
+          (inr (
+            lowest_free-free h p z fz,
+            IsCuts-dropped (spans_in h) (IsSpan-graph h) m r (contains one) (contains another) x d
+                (sym (test-spans h p one x) ∙ off),
+          ))
     ]
 
-cut-neither : (h : Graph) (p : Position) (d1 d2 : FinSet nat_cmp) (x z : ℕ)
-    → CutsDue h p d1 d2 x
-    → contains d1 x ≡ false
-    → contains d2 x ≡ false
+-- ---- either side: Short by trees, Cut by cuts
+
+abbrev pub edge_by : Side → Graph → Position → FinSet nat_cmp → FinSet nat_cmp → ℕ → ℕ
+edge_by X h p a1 a2 x = short_edge h p a1 a2 x
+edge_by Y h p a1 a2 x = cut_edge h p a1 a2 x
+
+abbrev pub SetsHoldOn : Side → Field → Position → FinSet nat_cmp → FinSet nat_cmp → Type 0
+SetsHoldOn X field p a1 a2 = TreesHoldOn field p a1 a2
+SetsHoldOn Y field p a1 a2 = CutsHoldOn field p a1 a2
+
+-- the answer keeps the sets
+pub edge-kept : (side : Side) (h : Graph) (p : Position) (a1 a2 : FinSet nat_cmp) (x z : ℕ)
+    → AreBelow p.x (edge_count h)
+    → AreDue (spans_in h) (edge_count h) side p a1 a2 x
     → IsFreeEdge h p z
-    → IsCutEdge h p d1 d2 x (lowest_free_edge h p)
-cut-neither h p d1 d2 x z d not1 not2 fz =
-    let m = edge_count h in
-    let r = left_edges h p in
-    let y = lowest_free_edge h p in
-    let y_free = lowest_free-free h p z fz in
-    record {
-      free = y_free;
-      cuts = subst₂ (λ (a b : ℕ → Bool). IsCuts (spans_in h) m (minus r y) (minus a y) (minus b y))
-          (sym (minus_absent (contains d1) x not1)) (sym (minus_absent (contains d2) x not2))
-          (IsCuts-claimed (spans_in h) (IsSpan-graph h) m r (contains d1) (contains d2) y d.cuts
-          (not_e h p y y_free));
-    }
+    → IsAnswer (edge_count h) (grown_by side) (StandBy (spans_in h) (edge_count h) side) p
+    (held_by (edge_count h) side p) x a1 a2 (edge_by side h p a1 a2 x)
+edge-kept X h p a1 a2 x z small d fz = answer-kept (edge_count h) (grown_by X)
+    (StandBy (spans_in h) (edge_count h) X) p (contains p.x) x
+    (IsStanding-by (spans_in h) (IsSpan-graph h) (edge_count h) X)
+    (λ one another. short_reply h p one another x) (lowest_free_edge h p) a1 a2
+    (λ one another. short-replies h p x z one another small fz) (lowest_free-free h p z fz) d.sets
+    d.left
+edge-kept Y h p a1 a2 x z small d fz = answer-kept (edge_count h) (grown_by Y)
+    (StandBy (spans_in h) (edge_count h) Y) p (left_edges h p) x
+    (IsStanding-by (spans_in h) (IsSpan-graph h) (edge_count h) Y)
+    (λ one another. cut_reply h p one another x) (lowest_free_edge h p) a1 a2
+    (λ one another. cut-replies h p x z one another fz) (lowest_free-free h p z fz) d.sets d.left
 
-pub cut-kept : (h : Graph) (p : Position) (d1 d2 : FinSet nat_cmp) (x z : ℕ)
-    → CutsDue h p d1 d2 x
-    → IsFreeEdge h p z
-    → IsCutEdge h p d1 d2 x (cut_edge h p d1 d2 x)
-cut-kept h p d1 d2 x z d fz = elim (cases_Bool (contains d1 x)) [
-  | inl i ↦ rw i (cut-first h p d1 d2 x z d i fz)
-  | inr o ↦ elim (cases_Bool (contains d2 x)) [
-    | inl i ↦ rw (o, i)
-        (cut_edge-other h p d1 d2 x _ (cut-first h p d2 d1 x z (cuts_due-other h p d1 d2 x d) i fz))
-    | inr o2 ↦ rw (o, o2) (cut-neither h p d1 d2 x z d o o2 fz)
-  ]
-]
+-- the sets hold once it is claimed
+pub sets-hold : (side : Side) (g : Game) (h : Graph) (p : Position) (a1 a2 : FinSet nat_cmp)
+    (x y : ℕ)
+    → g.field ≡ OnGraph h
+    → p.turn ≡ side
+    → AreDue (spans_in h) (edge_count h) side p a1 a2 x
+    → IsAnswer (edge_count h) (grown_by side) (StandBy (spans_in h) (edge_count h) side) p
+    (held_by (edge_count h) side p) x a1 a2 y
+    → SetsHoldOn side g.field (after g p y) (remove (remove a1 x) y) (remove (remove a2 x) y)
+sets-hold side g h p a1 a2 x y on mine d s = by side
+    (λ f k. left-free (rules_of g) (edge_count h) p a1 x y d.left.first f k)
+    (λ f k. left-free (rules_of g) (edge_count h) p a2 x y d.left.second f k)
+    (stand-next (spans_in h) (edge_count h) (rules_of g) side p a1 a2 x y mine s)
+  where
+    b1 : FinSet nat_cmp
+    b1 = remove (remove a1 x) y
 
-pub cut-holds : (g : Game) (h : Graph) (p : Position) (d1 d2 : FinSet nat_cmp) (x y : ℕ)
-    → p.turn ≡ Y
-    → CutsDue h p d1 d2 x
-    → IsCutEdge h p d1 d2 x y
-    → AreCuts h (after g p y) (remove (remove d1 x) y) (remove (remove d2 x) y)
-cut-holds g h p d1 d2 x y mine d s =
-    AreCuts-from h (after g p y) (remove (remove d1 x) y) (remove (remove d2 x) y)
-    (λ f k. inl (left_free g h p d1 x y d.left.first f k)) (left_free g h p d2 x y d.left.second)
-    (subst (λ (q : ℕ → Bool). IsCuts (spans_in h) (edge_count h) q
-    (contains (remove (remove d1 x) y)) (contains (remove (remove d2 x) y)))
-    (sym (kept-minus (edge_count h) (terminals_joined h) (suc (edge_count h)) p y mine))
-    (subst₂ (λ (a b : ℕ → Bool). IsCuts (spans_in h) (edge_count h) (minus (left_edges h p) y) a b)
-    (sym (remove-both d1 x y)) (sym (remove-both d2 x y)) s.cuts))
+    b2 : FinSet nat_cmp
+    b2 = remove (remove a2 x) y
 
--- X has just taken x, which stays in what is left
-cuts_due-after : (g : Game) (h : Graph) (q : Position) (d1 d2 : FinSet nat_cmp) (x : ℕ)
-    → q.turn ≡ X
-    → x < edge_count h
-    → AreBelow q.y (edge_count h)
-    → AreCuts h q d1 d2
-    → CutsDue h (after g q x) d1 d2 x
-cuts_due-after g h q d1 d2 x yours low small t = record {
-  cuts = subst (λ (r : ℕ → Bool). IsCuts (spans_in h) (edge_count h) r (contains d1) (contains d2))
-      (sym (kept-same (edge_count h) (terminals_joined h) (suc (edge_count h)) q x yours))
-      (IsCuts-from h q d1 d2 small t);
-  left = left-after g h q Y d1 d2 x yours low t.first_free t.second_free;
-}
+    by : (side : Side)
+        → AreFreeEdges h (after g p y) (remove (remove a1 x) y)
+        → AreFreeEdges h (after g p y) (remove (remove a2 x) y)
+        → StandBy (spans_in h) (edge_count h) side (held_by (edge_count h) side (after g p y))
+        (contains (remove (remove a1 x) y)) (contains (remove (remove a2 x) y))
+        → SetsHoldOn side g.field (after g p y) (remove (remove a1 x) y) (remove (remove a2 x) y)
+    by X free1 free2 t = subst (λ (f : Field). TreesHoldOn f (after g p y) b1 b2) (sym on)
+        (AreTrees-from h (after g p y) b1 b2 (λ f k. inl (free1 f k)) free2 t)
+    by Y free1 free2 t = subst (λ (f : Field). CutsHoldOn f (after g p y) b1 b2) (sym on)
+        (AreCuts-from h (after g p y) b1 b2 (λ f k. inl (free1 f k)) free2 t)
 
-pub cuts-due : (g : Game) (h : Graph) (p : Position) (d1 d2 : FinSet nat_cmp) (last : Option ℕ)
+-- the first set is left without e
+pub left-without_e : (g : Game) (h : Graph) (p : Position) (a1 a2 f : FinSet nat_cmp) (x y : ℕ)
+    → g.field ≡ OnGraph h
+    → AreLeft (edge_count h) p a1 a2 x
+    → f ≡ remove (remove a1 x) y
+    → contains f (point_count g) ≡ false
+left-without_e g h p a1 a2 f x y on left is_f =
+    let points : point_count g ≡ edge_count h = ap field_points on in
+    false_from_ne_true _ (λ k.
+    let low =
+    (left-free (rules_of g) (edge_count h) p a1 x y left.first (point_count g)
+    (subst (λ (q : FinSet nat_cmp). contains q (point_count g) ≡ true) is_f k)).0 in
+    absurd (omega (arith, low, points)))
+
+-- ---- what is due
+
+-- the edges over which the side's sets stand, or which are taken from them, are edges
+abbrev AreOwn : Side → Graph → Position → Type 0
+AreOwn X h p = AreBelow p.x (edge_count h)
+AreOwn Y h p = AreBelow p.y (edge_count h)
+
+own-now : (side : Side) (g : Game) (h : Graph) (p : Position)
     → g.field ≡ OnGraph h
     → IsPosition g p
-    → p.turn ≡ Y
-    → HeldUntil g p (λ q. CutsHold g q d1 d2) last
-    → CutsDue h p d1 d2 (answered_edge h last)
-cuts-due g h p d1 d2 None on position mine held =
-    let t : AreCuts h p d1 d2 = subst (λ (f : Field). CutsHoldOn f p d1 d2) on held in
+    → AreOwn side h p
+own-now X g h p on position =
+    λ v k. subst (λ (n : ℕ). v < n) (ap field_points on) (position.x_range v k)
+own-now Y g h p on position =
+    λ v k. subst (λ (n : ℕ). v < n) (ap field_points on) (position.y_range v k)
+
+own-before : (side : Side) (g : Game) (h : Graph) (b p : Position) (x : ℕ)
+    → p ≡ after g b x
+    → b.turn ≡ other side
+    → AreOwn side h p
+    → AreOwn side h b
+own-before X g h b p x leads yours small = λ v k. small v
+    (subst (λ (s : FinSet nat_cmp). contains s v ≡ true)
+    (sym (ap (λ (r : Position). r.x) leads
+    ∙ x-next_y (edge_count h) (terminals_joined h) b x yours)) k)
+own-before Y g h b p x leads yours small = λ v k. small v
+    (subst (λ (s : FinSet nat_cmp). contains s v ≡ true)
+    (sym (ap (λ (r : Position). r.y) leads
+    ∙ y-next_x (edge_count h) (terminals_joined h) b x yours)) k)
+
+-- sets that hold on a graph
+record AreHeld (side : Side) (h : Graph) (p : Position) (a1 a2 : FinSet nat_cmp) : Type 0 where
+  pub first_free : AreFreeWithE h p side a1
+  pub second_free : AreFreeEdges h p a2
+  pub sets : StandBy (spans_in h) (edge_count h) side (held_by (edge_count h) side p) (contains a1)
+      (contains a2)
+
+are-held : (side : Side) (g : Game) (h : Graph) (p : Position) (a1 a2 : FinSet nat_cmp)
+    → g.field ≡ OnGraph h
+    → AreOwn side h p
+    → SetsHoldOn side g.field p a1 a2
+    → AreHeld side h p a1 a2
+are-held X g h p a1 a2 on small held =
+    let t : AreTrees h p a1 a2 = subst (λ (f : Field). TreesHoldOn f p a1 a2) on held in
     record {
-      cuts = IsCuts-from h p d1 d2
-          (λ v k. subst (λ (n : ℕ). v < n) (ap field_points on) (position.y_range v k)) t;
-      left = left-now h p Y d1 d2 t.first_free t.second_free;
+      first_free = t.first_free;
+      second_free = t.second_free;
+      sets = IsTrees-from h p a1 a2 small t;
     }
-cuts-due g h p d1 d2 (Some x) on position mine held =
+are-held Y g h p a1 a2 on small held =
+    let t : AreCuts h p a1 a2 = subst (λ (f : Field). CutsHoldOn f p a1 a2) on held in
+    record {
+      first_free = t.first_free;
+      second_free = t.second_free;
+      sets = IsCuts-from h p a1 a2 small t;
+    }
+
+pub sets-due : (side : Side) (g : Game) (h : Graph) (p : Position) (a1 a2 : FinSet nat_cmp)
+    (last : Option ℕ)
+    → g.field ≡ OnGraph h
+    → IsPosition g p
+    → p.turn ≡ side
+    → HeldUntil g p (λ q. SetsHoldOn side g.field q a1 a2) last
+    → AreDue (spans_in h) (edge_count h) side p a1 a2 (answered_edge h last)
+sets-due side g h p a1 a2 None on position mine held =
+    let t = are-held side g h p a1 a2 on (own-now side g h p on position) held in
+    due-now (spans_in h) (edge_count h) (rules_of g) side p a1 a2 t.first_free t.second_free t.sets
+sets-due side g h p a1 a2 (Some x) on position mine held =
     let b = held.before in
-    let t : AreCuts h b d1 d2 = subst (λ (f : Field). CutsHoldOn f b d1 d2) on held.held in
-    let points : point_count g ≡ edge_count h = ap field_points on in
-    let low : x < edge_count h = subst (λ (n : ℕ). x < n) points held.within in
-    let yours : b.turn ≡ X = held.theirs ∙ ap other mine in
-    let same : p.y ≡ b.y = ap (λ (r : Position). r.y) held.leads
-    ∙ y-next_x (edge_count h) (terminals_joined h) b x yours in
-    let small : AreBelow b.y (edge_count h) = λ v k. subst (λ (n : ℕ). v < n) points
-    (position.y_range v (ap (λ (s : FinSet nat_cmp). contains s v) same ∙ k)) in
-    subst (λ (r : Position). CutsDue h r d1 d2 x) (sym held.leads)
-    (cuts_due-after g h b d1 d2 x yours low small t)
+    let yours : b.turn ≡ other side = held.theirs ∙ ap other mine in
+    let small =
+    own-before side g h b p x held.leads yours (own-now side g h p on position) in
+    let t = are-held side g h b a1 a2 on small held.held in
+    let low : x < edge_count h = subst (λ (n : ℕ). x < n) (ap field_points on) held.within in
+    subst (λ (q : Position). AreDue (spans_in h) (edge_count h) side q a1 a2 x) (sym held.leads)
+    (due-after (spans_in h) (edge_count h) (rules_of g) side b a1 a2 x yours low t.first_free
+    t.second_free t.sets)
 
 -- ---- some edge is free while the game goes on
 

@@ -17,6 +17,8 @@ pub use Rattle.pg_switch.specs.Prelude.{other, outcome_by, plus, point_count, ra
 pub use Rattle.pg_switch.specs.Prelude.{reaches, remove, rules_of, second_end, second_end_of}
 pub use Rattle.pg_switch.specs.Prelude.{short_edge, short_joins, spans_in, terminals_joined, union}
 pub use Rattle.pg_switch.specs.Prelude.{with_set, without_set}
+pub use Rattle.pg_switch.specs.Prelude.{IsPlayBy, Score, ending_by, is_same_side, judged_by}
+pub use Rattle.pg_switch.specs.Prelude.{played_by}
 unfoldable pub use Rattle.pg_switch.specs.Prelude.{count, crosses, cuts_answer, edge_spans, is_over}
 unfoldable pub use Rattle.pg_switch.specs.Prelude.{minus, outcome, outside, parts, trees_answer}
 pub use Rattle.pg_base.proofs.BelowLemmas.{below_from, below_in, below_none, below_out, below_parts}

@@ -62,18 +62,53 @@ find_below-cases t n = elim (find_from t 0 n) [
   | inr none ↦ inr (λ w low. none.0 w (omega arith) (omega arith), none.1)
 ]
 
--- ---- free edges
+-- ---- free numbers
 
--- where some edge is free, the lowest is one
+abbrev pub lowest_free : ℕ → Position → ℕ
+lowest_free n p = unwrap_or (find (is_free p) (range_with_len 0 n)) 0
+
+-- where some number below n is free, the lowest is one
+pub free-free : (n : ℕ) (p : Position) (z : ℕ)
+    → z < n
+    → is_free p z ≡ true
+    → (lowest_free n p < n) × (is_free p (lowest_free n p) ≡ true)
+free-free n p z low free = elim (find_below-cases (is_free p) n) [
+  | inl found ↦
+      let e : found.number ≡ lowest_free n p =
+      sym (ap (λ (r : Option ℕ). unwrap_or r 0) found.is) in
+      subst (λ (v : ℕ). (v < n) × (is_free p v ≡ true)) e (found.low, found.passes)
+  | inr none ↦ absurd (both_ways _ (none.0 z low) free)
+]
+
 pub lowest_free-free : (h : Graph) (p : Position) (z : ℕ)
     → IsFreeEdge h p z
     → IsFreeEdge h p (lowest_free_edge h p)
-lowest_free-free h p z free = elim (find_below-cases (is_free p) (edge_count h)) [
+lowest_free-free h p z free = free-free (edge_count h) p z free.0 free.1
+
+-- no answer is above n
+pub free-bound : (n : ℕ) (p : Position) → lowest_free n p ≤ n
+free-bound n p = elim (find_below-cases (is_free p) n) [
   | inl found ↦
-      let e : found.number ≡ lowest_free_edge h p =
-      sym (ap (λ (r : Option ℕ). unwrap_or r 0) found.is) in
-      subst (λ (v : ℕ). IsFreeEdge h p v) e (found.low, found.passes)
-  | inr none ↦ absurd (both_ways _ (none.0 z free.0) free.1)
+      let e : lowest_free n p ≡ found.number = ap (λ (r : Option ℕ). unwrap_or r 0) found.is in
+      omega (arith, e, found.low)
+  | inr none ↦
+      let e : lowest_free n p ≡ 0 = ap (λ (r : Option ℕ). unwrap_or r 0) none.1 in
+      omega (arith, e)
+]
+
+-- so for what is found, or the lowest free number
+pub found-bound : (t : ℕ → Bool) (n : ℕ) (p : Position)
+    → unwrap_or (find t (range_with_len 0 n)) (lowest_free n p) ≤ n
+found-bound t n p = elim (find_below-cases t n) [
+  | inl found ↦
+      let e : unwrap_or (find t (range_with_len 0 n)) (lowest_free n p) ≡ found.number =
+      ap (λ (r : Option ℕ). unwrap_or r (lowest_free n p)) found.is in
+      omega (arith, e, found.low)
+  | inr none ↦
+      let e : unwrap_or (find t (range_with_len 0 n)) (lowest_free n p) ≡ lowest_free n p =
+      ap (λ (r : Option ℕ). unwrap_or r (lowest_free n p)) none.1 in
+      let low = free-bound n p in
+      omega (arith, e, low)
 ]
 
 -- ---- candidates without e

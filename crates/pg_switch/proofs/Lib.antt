@@ -4,6 +4,9 @@ pub mod SwitchLaws
 pub mod Conditions
 pub mod Finding
 pub mod Replying
+pub mod LostElement
+pub mod Seats
+pub mod Known
 pub mod AnswerLaws
 pub mod PlanLaws
 pub mod ClaimLaws

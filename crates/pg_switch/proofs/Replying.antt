@@ -1,7 +1,7 @@
 -- The replies that the code finds are those of the definitions.
-use Rattle.std.proofs.Common.{◌≡◌, ℕ, Bool, true, Option, Some, None, refl, sym, ap, ap₂, ◌∙◌}
+use Rattle.std.proofs.Common.{◌≡◌, ℕ, Bool, true, Option, refl, sym, ap, ap₂, ◌∙◌}
 use Rattle.std.proofs.Common.{subst}
-use Rattle.std.specs.Prelude.{IfSome, IfNone, unwrap_or}
+use Rattle.std.specs.Prelude.{IfSome, IfNone}
 use Rattle.pg_switch.proofs.Common.{FinSet, contains, remove, union, nat_cmp, outside}
 use Rattle.pg_switch.proofs.Common.{contains-union_either, remove-old, Graph, edge_count}
 use Rattle.pg_switch.proofs.Common.{first_end_of, second_end_of, AreBothEdges, AreEdges, Crosses}
@@ -68,10 +68,3 @@ cut-found h p one another left others x u v r small edges is_left is_others is_u
     parting-found h (contains left) (without_set p one) u v another others r edges small is_others
     (λ z low. without-agree h p one z low ∙ ap (λ s. s z) (sym is_left)) lowest none
     ∙ ap₂ (λ a b. lowest_parting h (without_set p one) a b another) is_u is_v
-
--- an edge that is found is the reply, and where none is it is the lowest free one
-pub reply-some : (r s : Option ℕ) (k z : ℕ) → r ≡ s → r ≡ Some k → k ≡ unwrap_or s z
-reply-some r s k z e is = ap (λ (q : Option ℕ). unwrap_or q z) (sym is ∙ e)
-
-pub reply-none : (r s : Option ℕ) (k z : ℕ) → r ≡ s → r ≡ None → k ≡ z → k ≡ unwrap_or s z
-reply-none r s k z e is same = same ∙ ap (λ (q : Option ℕ). unwrap_or q z) (sym is ∙ e)

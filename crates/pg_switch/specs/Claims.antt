@@ -85,3 +85,15 @@ pub record AreSpanCuts (spans : (ℕ → Bool) → ℕ → Bool) (n : ℕ) (p : 
   pub first_parts : contains d1 n ≡ false → IsSpanBridge spans (left_without n p d1) n
   pub second : (f : ℕ) → contains d1 f ≡ true → IsSpanBridge spans (left_without n p d2) f
   pub second_parts : IsSpanBridge spans (left_without n p d2) n
+
+-- ---- a side's sets: X's trees, Y's cuts
+
+abbrev pub AreSpanSets : ((ℕ → Bool) → ℕ → Bool)
+    → ℕ
+    → Side
+    → Position
+    → FinSet nat_cmp
+    → FinSet nat_cmp
+    → Type 0
+AreSpanSets spans n X p a1 a2 = AreSpanTrees spans n p a1 a2
+AreSpanSets spans n Y p a1 a2 = AreSpanCuts spans n p a1 a2

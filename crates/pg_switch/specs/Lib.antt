@@ -2,4 +2,5 @@ pub mod Prelude
 pub mod Parts
 pub mod Replies
 pub mod Claims
+pub mod Seat
 pub mod Span

@@ -2,9 +2,10 @@
 pub use Rattle.pg_base.specs.Points.{ShareNone}
 pub use Rattle.pg_base.specs.Sets.{IsBelow, IsWithin, below, both, either, one_if, plus}
 unfoldable pub use Rattle.pg_base.specs.Sets.{count, minus, outside}
-pub use Rattle.pg_base.specs.Side.{other}
+pub use Rattle.pg_base.specs.Side.{is_same_side, other}
 pub use Rattle.pg_base.specs.declared.goal.Goal.TheVariants.{Win}
 pub use Rattle.pg_base.specs.declared.kind.Kind.TheVariants.{Switching}
+pub use Rattle.pg_base.specs.declared.score.Score.{Score}
 pub use Rattle.pg_base.specs.declared.score.Score.TheVariants.{XWins, YWins}
 pub use Rattle.pg_base.specs.declared.side.Side.{Side}
 pub use Rattle.pg_base.specs.declared.side.Side.TheVariants.{X, Y}
@@ -14,8 +15,10 @@ pub use Rattle.pg_game.specs.Game.{IsPosition, after, all_touched, can_join, has
 pub use Rattle.pg_game.specs.Game.{is_over_by, outcome_by, point_count, short_joins}
 unfoldable pub use Rattle.pg_game.specs.Game.{is_over, outcome}
 pub use Rattle.pg_game.specs.Judge.{IsMadeForGame}
+pub use Rattle.pg_game.specs.Judging.{ending_by, judged_by}
 pub use Rattle.pg_game.specs.Position.{claims_in_turn, is_free}
-pub use Rattle.pg_game.specs.Rules.{ForcesBy, IsEnding, KeepsBy, Rules, moved, reaches}
+pub use Rattle.pg_game.specs.Rules.{ForcesBy, IsEnding, IsPlayBy, KeepsBy, Rules, moved, played_by}
+pub use Rattle.pg_game.specs.Rules.{reaches}
 pub use Rattle.pg_game.specs.Trees.{Answered, AreCuts, AreFreeEdges, AreFreeWithE, AreTrees}
 pub use Rattle.pg_game.specs.Trees.{CutsHold, CutsHoldOn, IsFreeEdge, TreesHold, TreesHoldOn}
 pub use Rattle.pg_game.specs.Trees.{answered_edge, claimed, cut_edge, differ, lowest_crossing}

@@ -1,8 +1,8 @@
 //! The edge that answers a reply.
-ghost use Rattle.std.specs.Prelude.{◌≡◌, ◌<◌, ◌≤◌};
+ghost use Rattle.std.specs.Prelude.{◌≡◌, ◌<◌, ◌≤◌, find, unwrap_or};
 ghost use Rattle.pg_switch.specs.Prelude.{contains, remove, IsGraph, edge_count, IsMadeFor};
 ghost use Rattle.pg_switch.specs.Prelude.{AreEdges, AreBothEdges, short_edge, cut_edge};
-ghost use Rattle.pg_switch.specs.Prelude.{lowest_free_edge};
+ghost use Rattle.pg_switch.specs.Prelude.{lowest_free_edge, is_free, range_with_len};
 ghost use Rattle.pg_base.specs.Points.{AreBelow};
 ghost use Rattle.pg_switch.specs.Replies.{short_reply, cut_reply};
 
@@ -16,7 +16,19 @@ pub fn lowest_free(graph: &Graph, p: &Position) -> u16
     requires { IsGraph graph.now }
     ensures { result ≡ lowest_free_edge graph.now p.now }
 {
-    p.lowest_free_below(graph.edge_count()).unwrap_or(0)
+    or_lowest(graph.edge_count(), p, None)
+}
+
+/// What was found, and the lowest free one of n points where nothing was.
+pub fn or_lowest(n: u16, p: &Position, found: Option<u16>) -> u16
+    requires { n ≤ MAX_MEMBERS }
+    ensures { result
+        ≡ unwrap_or found (unwrap_or (find (is_free p.now) (range_with_len 0 n)) 0) }
+{
+    match found {
+        Some(v) => v,
+        None => p.lowest_free_below(n).unwrap_or(0),
+    }
 }
 
 /// The set without x.
@@ -50,10 +62,8 @@ fn short_reply(
     let joined = p.x.union(&without(one, x));
     let candidates = without(other, graph.edge_count());
     let (u, _) = graph.ends_of(x);
-    match j.crossing(graph, &joined, u, &candidates) {
-        Some(k) => k,
-        None => lowest_free(graph, p),
-    }
+    let found = j.crossing(graph, &joined, u, &candidates);
+    or_lowest(graph.edge_count(), p, found)
 }
 
 /// The lowest edge of the other set that parts the ends of x in what is left without the one set,
@@ -76,10 +86,8 @@ fn cut_reply(
     let left = edges_left(graph, &p.y).without(one);
     let candidates = without(other, graph.edge_count());
     let (u, v) = graph.ends_of(x);
-    match j.parting(graph, &left, u, v, &candidates) {
-        Some(k) => k,
-        None => lowest_free(graph, p),
-    }
+    let found = j.parting(graph, &left, u, v, &candidates);
+    or_lowest(graph.edge_count(), p, found)
 }
 
 /// Short's edge by two sets where the edge x is lost: the lowest one of the other set with exactly

@@ -11,6 +11,6 @@ mod condition;
 pub mod laws;
 mod plan;
 
-pub use answers::{lowest_free, short_edge};
+pub use answers::{lowest_free, or_lowest, short_edge};
 pub use condition::{cuts_hold, trees_hold};
-pub use plan::{CutPlan, ShortPlan};
+pub use plan::{CutPlan, ShortPlan, answered_edge, without_both};

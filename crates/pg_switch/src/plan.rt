@@ -28,18 +28,20 @@ pub struct CutPlan {
     pub second: PointSet,
 }
 
-/// Takes the lost and the claimed edge out of the set.
-fn take_both(set: &mut PointSet, lost: u16, claimed: u16)
+/// The set without the lost and the claimed point.
+pub fn without_both(set: &PointSet, lost: u16, claimed: u16) -> PointSet
     requires lost { lost < MAX_MEMBERS }
     requires claimed { claimed < MAX_MEMBERS }
-    ensures { set.new ≡ remove (remove set.old lost) claimed }
+    ensures { result ≡ remove (remove set.now lost) claimed }
 {
-    set.take(lost);
-    set.take(claimed);
+    let mut others = *set;
+    others.take(lost);
+    others.take(claimed);
+    others
 }
 
 /// The edge that is answered: the last reply, or e before any.
-fn answered_edge(graph: &Graph, last: Option<u16>) -> u16
+pub fn answered_edge(graph: &Graph, last: Option<u16>) -> u16
     requires { IsGraph graph.now }
     ensures { result ≡ answered_edge graph.now last }
 {
@@ -88,8 +90,8 @@ impl ShortPlan {
             Field::Graph(graph) => {
                 let x = answered_edge(graph, last);
                 let edge = short_edge(graph, j, p, &self.first, &self.second, x);
-                take_both(&mut self.first, x, edge);
-                take_both(&mut self.second, x, edge);
+                self.first = without_both(&self.first, x, edge);
+                self.second = without_both(&self.second, x, edge);
                 edge
             }
         }
@@ -135,8 +137,8 @@ impl CutPlan {
             Field::Graph(graph) => {
                 let x = answered_edge(graph, last);
                 let edge = cut_edge(graph, j, p, &self.first, &self.second, x);
-                take_both(&mut self.first, x, edge);
-                take_both(&mut self.second, x, edge);
+                self.first = without_both(&self.first, x, edge);
+                self.second = without_both(&self.second, x, edge);
                 edge
             }
         }

@@ -1,7 +1,7 @@
 -- Sets that a judge makes, and what they decide.
-use Rattle.std.proofs.Common.{◌≡◌, ℕ, suc, Bool, true, false, not, ◌&&◌, Option, Some, None, refl}
+use Rattle.std.proofs.Common.{◌≡◌, ℕ, suc, Bool, true, false, not, ◌&&◌, Some, None, refl}
 use Rattle.std.proofs.Common.{sym, ap, ◌∙◌}
-use Rattle.std.specs.Prelude.{nat_lt, unwrap_or, length}
+use Rattle.std.specs.Prelude.{nat_lt, length}
 use Rattle.pg_vec_player.proofs.Common.{and_parts, and_from, lt-ltb, ltb-true, FinSet, contains}
 use Rattle.pg_vec_player.proofs.Common.{remove, union, difference, nat_cmp, either, outside}
 use Rattle.pg_vec_player.proofs.Common.{same_sets, below_parts, below_from, contains-union_either}
@@ -62,11 +62,3 @@ left-spans g p left n b is_n is_left is =
     ap (λ (s : ℕ → Bool). vector_spans (with_target g) s (length g.vectors))
     (sym (is_left ∙ ap (λ (m : ℕ). kept m p) is_n))
     ∙ sym is
-
--- ---- a reply
-
-pub reply-some : (r s : Option ℕ) (k z : ℕ) → r ≡ s → r ≡ Some k → k ≡ unwrap_or s z
-reply-some r s k z e is = ap (λ (q : Option ℕ). unwrap_or q z) (sym is ∙ e)
-
-pub reply-none : (r s : Option ℕ) (k z : ℕ) → r ≡ s → r ≡ None → k ≡ z → k ≡ unwrap_or s z
-reply-none r s k z e is same = same ∙ ap (λ (q : Option ℕ). unwrap_or q z) (sym is ∙ e)

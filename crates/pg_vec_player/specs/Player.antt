@@ -1,10 +1,10 @@
 -- What is seen of a player of a game on vectors, and what it does.
-use Rattle.std.specs.Prelude.{◌≡◌, ◌⊎◌, ℕ, ◌<◌, Bool, true, false, ◌&&◌, List, length, Option, Some}
+use Rattle.std.specs.Prelude.{◌≡◌, ◌⊎◌, ℕ, ◌<◌, Bool, true, false, ◌&&◌, length, Option, Some}
 use Rattle.std.specs.Prelude.{None, Ok, find, slice_get}
-use Rattle.pg_vec_player.specs.Prelude.{empty, other, is_same_side, Win, Score, Side, X, Y}
-use Rattle.pg_vec_player.specs.Prelude.{Position, is_free, ending_by, judged_by, moved, IsPlayBy}
-use Rattle.pg_vec_player.specs.Prelude.{played_by, ForcesBy, IsPlace, AreSpanTrees, AreSpanCuts}
-use Rattle.pg_vec_player.specs.Prelude.{Cert, Claim, Body, Trees, Cuts, Node, VecGame, VecPlan}
+use Rattle.pg_vec_player.specs.Prelude.{empty, other, is_same_side, Score, Side}
+use Rattle.pg_vec_player.specs.Prelude.{Position, is_free, ending_by, judged_by, moved, IsOnPlan}
+use Rattle.pg_vec_player.specs.Prelude.{IsDue, AreSpanSets, Cert, Claim, Body, Trees, Cuts, Node}
+use Rattle.pg_vec_player.specs.Prelude.{VecGame, VecPlan}
 use Rattle.pg_vec_player.specs.Prelude.{vec_move, with_e_named, with_target, vector_rules, at_turn}
 use Rattle.pg_vec_player.specs.Prelude.{vector_spans}
 use Rattle.pg_vec_player.specs.declared.judge.VecJudge.{VecJudge}
@@ -90,24 +90,14 @@ AnswersOnVectors before now v (Some w) =
 
 -- the plan is X's trees or Y's cuts at the position
 abbrev pub VecPlanHolds : VecGame → Side → Position → VecPlan → Type 0
-VecPlanHolds g X p plan =
-    AreSpanTrees (vector_spans (with_target g)) (length g.vectors) p plan.first plan.second
-VecPlanHolds g Y p plan =
-    AreSpanCuts (vector_spans (with_target g)) (length g.vectors) p plan.first plan.second
-
--- the position is that after a legal play from the game's marks
-pub record IsVecReached (g : VecGame) (p : Position) : Type 0 where
-  pub moves : List ℕ
-  pub legal : IsPlayBy (vector_rules g) (vec_start g) moves
-  pub leads : played_by (vector_rules g) (vec_start g) moves ≡ p
+VecPlanHolds g side p plan = AreSpanSets (vector_spans (with_target g)) (length g.vectors) side p
+    plan.first plan.second
 
 -- the position is reached by a legal play, the side forces its win from it, and while the game goes
 -- on the plan holds
-pub record IsOnVecPlan (g : VecGame) (side : Side) (p : Position) (plan : VecPlan) : Type 0 where
-  pub place : IsPlace (length g.vectors) p
-  pub reached : IsVecReached g p
-  pub forced : ForcesBy (vector_rules g) p side Win
-  pub holds : (vector_rules g).over p ≡ false → VecPlanHolds g side p plan
+abbrev pub IsOnVecPlan : VecGame → Side → Position → VecPlan → Type 0
+IsOnVecPlan g side p plan =
+    IsOnPlan (vector_rules g) (vec_start g) (λ q. VecPlanHolds g side q plan) side p
 
 -- it is on its plan, knows the outcome, and has a judge of the game
 pub record IsVecPlaying (g : VecGame) (side : Side) (p : Position) (plan : VecPlan)
@@ -116,27 +106,7 @@ pub record IsVecPlaying (g : VecGame) (side : Side) (p : Position) (plan : VecPl
   pub known : ending ≡ ending_by (vector_rules g) p
   pub judged : IsVecJudgeOf judge g
 
--- the other side has just taken v, and before that the plan held
-pub record HeldBefore (g : VecGame) (side : Side) (p : Position) (plan : VecPlan)
-    (v : ℕ) : Type 0 where
-  pub before : Position
-  pub place : IsPlace (length g.vectors) before
-  pub theirs : before.turn ≡ other side
-  pub within : v < length g.vectors
-  pub free : is_free before v ≡ true
-  pub leads : p ≡ moved (vector_rules g) before v
-  pub held : VecPlanHolds g side before plan
-
--- the plan held before the last reply, and holds where there is none
-abbrev pub HeldUntil : VecGame → Side → Position → VecPlan → Option ℕ → Type 0
-HeldUntil g side p plan None = VecPlanHolds g side p plan
-HeldUntil g side p plan (Some v) = HeldBefore g side p plan v
-
 -- the side is to move in a game that goes on
-pub record IsVecDue (g : VecGame) (side : Side) (p : Position) (plan : VecPlan)
-    (last : Option ℕ) : Type 0 where
-  pub place : IsPlace (length g.vectors) p
-  pub reached : IsVecReached g p
-  pub going : (vector_rules g).over p ≡ false
-  pub turn : p.turn ≡ side
-  pub held : HeldUntil g side p plan last
+abbrev pub IsVecDue : VecGame → Side → Position → VecPlan → Option ℕ → Type 0
+IsVecDue g side p plan last =
+    IsDue (vector_rules g) (vec_start g) (λ q. VecPlanHolds g side q plan) side p last

@@ -1,5 +1,5 @@
 -- What the definitions of this crate name of std and of the crates below.
-pub use Rattle.pg_base.specs.Sets.{IsBelow, IsWithin, below, either, minus, outside, plus}
+pub use Rattle.pg_base.specs.Sets.{IsWithin, below, either, minus, outside}
 pub use Rattle.pg_base.specs.Side.{is_same_side, other}
 pub use Rattle.pg_base.specs.declared.goal.Goal.TheVariants.{Win}
 pub use Rattle.pg_base.specs.declared.score.Score.{Score}
@@ -13,7 +13,7 @@ pub use Rattle.pg_cert.specs.declared.node.Body.TheVariants.{Threat, Trees, Weak
 pub use Rattle.pg_cert.specs.declared.node.Node.{Node}
 pub use Rattle.pg_game.specs.Judging.{ending_by, judged_by}
 pub use Rattle.pg_game.specs.Position.{is_free}
-pub use Rattle.pg_game.specs.Rules.{ForcesBy, IsEnding, IsPlayBy, Rules, moved, played_by, reaches}
+pub use Rattle.pg_game.specs.Rules.{ForcesBy, IsPlayBy, Rules, moved, played_by, reaches}
 pub use Rattle.pg_game.specs.declared.position.Position.{Position}
 pub use Rattle.pg_gf2.specs.Answers.{VecMove, answer_vector, lost_vector, lowest_free}
 pub use Rattle.pg_gf2.specs.Answers.{lowest_needed, lowest_unspanned, plan_without, reply_vector}
@@ -24,9 +24,9 @@ pub use Rattle.pg_gf2.specs.Classes.{at_turn, vector_rules, with_target}
 pub use Rattle.pg_gf2.specs.Vectors.{vector_spans}
 pub use Rattle.pg_gf2.specs.declared.game.VecGame.{VecGame}
 pub use Rattle.pg_gf2.specs.declared.plan.VecPlan.{VecPlan}
-pub use Rattle.pg_graph.specs.Span.{IsCuts, IsSpan, IsTrees}
-pub use Rattle.pg_switch.specs.Claims.{AreFreeOrE, AreSpanCuts, AreSpanTrees, IsMonotone, IsPlace}
-pub use Rattle.pg_switch.specs.Claims.{kept, left_without}
-pub use Rattle.std.specs.Coded.{Coded-set, coded_bool, coded_ℕ}
+pub use Rattle.pg_graph.specs.Span.{IsSpan}
+pub use Rattle.pg_switch.specs.Claims.{AreFree, AreFreeOrE, AreSpanCuts, AreSpanSets, AreSpanTrees}
+pub use Rattle.pg_switch.specs.Claims.{IsPlace, kept, left_without}
+pub use Rattle.pg_switch.specs.Seat.{HeldUntilReply, IsDue, IsOnPlan}
 pub use Rattle.std.specs.FinSet.{FinSet, contains, difference, empty, remove, union}
 pub use Rattle.std.specs.Ordering.{nat_cmp}

@@ -1,7 +1,7 @@
 //! Whether a game on vectors is over and who has won, and what is claimed where a vector is lost.
 ghost use Rattle.std.specs.Prelude.{◌≡◌, ◌<◌, ◌≤◌, ◌+◌, length, IfOk};
 ghost use Rattle.pg_vec_player.specs.Prelude.{contains, remove, either, ending_by, judged_by, kept};
-ghost use Rattle.pg_vec_player.specs.Prelude.{left_without, lowest_free, reply_vector};
+ghost use Rattle.pg_vec_player.specs.Prelude.{left_without, reply_vector};
 ghost use Rattle.pg_vec_player.specs.Prelude.{answer_vector, with_target, vector_rules};
 ghost use Rattle.pg_vec_player.specs.Prelude.{vector_spans};
 ghost use Rattle.pg_gf2.specs.declared.game.TheConstants.{MAX_VECTORS};
@@ -10,6 +10,7 @@ ghost use Rattle.pg_vec_player.specs.Judge.{IsVecJudgeOf};
 use pg_base::{Memory, PointSet, Score, Side};
 use pg_game::{Illegal, Position};
 use pg_gf2::{Row, VecGame, VecPlan, lowest_needed, lowest_unspanned, spans};
+use pg_switch::or_lowest;
 use std::alloc::Global;
 
 /// How many vectors each side claims in a turn.
@@ -55,14 +56,6 @@ fn left_without(p: &Position, n: u16, set: &PointSet) -> PointSet
     ensures { contains result ≡ left_without n p.now set.now }
 {
     kept(p, n + 1).without(set)
-}
-
-/// The lowest free vector, else 0.
-fn lowest_free(n: u16, p: &Position) -> u16
-    requires { n ≤ MAX_VECTORS }
-    ensures { result ≡ lowest_free n p.now }
-{
-    p.lowest_free_below(n).unwrap_or(0)
 }
 
 impl VecJudge {
@@ -122,20 +115,17 @@ impl VecJudge {
     {
         let n = target_of(g);
         let vectors = self.vectors.as_slice();
-        let found = match side {
-            Side::X => lowest_unspanned(&mut self.rows, vectors, n, &joined(p, one, x), other),
-            Side::Y => lowest_needed(
-                &mut self.rows,
-                vectors,
-                n,
-                &left_without(p, n, one),
-                x,
-                other,
-            ),
-        };
-        match found {
-            Some(v) => v,
-            None => lowest_free(n, p),
+        match side {
+            Side::X => {
+                let set = joined(p, one, x);
+                let found = lowest_unspanned(&mut self.rows, vectors, n, &set, other);
+                or_lowest(n, p, found)
+            }
+            Side::Y => {
+                let left = left_without(p, n, one);
+                let found = lowest_needed(&mut self.rows, vectors, n, &left, x, other);
+                or_lowest(n, p, found)
+            }
         }
     }
 
@@ -159,7 +149,7 @@ impl VecJudge {
         } else if plan.second.has(x) {
             self.reply(g, side, p, &plan.second, &plan.first, x)
         } else {
-            lowest_free(target_of(g), p)
+            or_lowest(target_of(g), p, None)
         }
     }
 }

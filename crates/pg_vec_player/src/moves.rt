@@ -1,13 +1,14 @@
 //! A player's own moves on vectors.
-ghost use Rattle.std.specs.Prelude.{◌≡◌, ◌<◌, ◌≤◌, Option, length};
-ghost use Rattle.pg_vec_player.specs.Prelude.{remove, lost_vector, vec_move, with_target};
+ghost use Rattle.std.specs.Prelude.{◌≡◌, ◌≤◌, Option, length};
+ghost use Rattle.pg_vec_player.specs.Prelude.{lost_vector, vec_move, with_target};
 ghost use Rattle.pg_vec_player.specs.Prelude.{vector_spans};
 ghost use Rattle.pg_vec_player.specs.Judge.{IsVecJudgeOf};
 
 use crate::judge::VecJudge;
-use pg_base::{MAX_MEMBERS, PointSet, Side};
+use pg_base::Side;
 use pg_game::Position;
 use pg_gf2::{VecGame, VecPlan};
+use pg_switch::without_both;
 
 /// An own move, and the plan that is left.
 #[derive(Clone, Copy, Debug)]
@@ -26,18 +27,6 @@ fn lost_vector(g: &VecGame, last: Option<u16>) -> u16
         Some(x) => x,
         None => g.vectors.as_slice().len() as u16,
     }
-}
-
-/// The set without the lost and the claimed vector.
-fn without_both(set: &PointSet, lost: u16, claimed: u16) -> PointSet
-    requires lost { lost < MAX_MEMBERS }
-    requires claimed { claimed < MAX_MEMBERS }
-    ensures { result ≡ remove (remove set.now lost) claimed }
-{
-    let mut others = *set;
-    others.take(lost);
-    others.take(claimed);
-    others
 }
 
 /// The own move after the last reply by the plan. It takes no memory.

@@ -41,7 +41,7 @@ pub(crate) fn potential_holds(g: &Game, p: &Position, side: Side) -> bool
         → IsTrue result ↔ PotentialHolds g.now p.now side }
 {
     match g.kind {
-        Kind::AvoiderEnforcer => pg_avoider::holds(g, p),
+        Kind::AvoiderEnforcer => pg_potential::avoider::holds(g, p),
         Kind::MakerBreaker | Kind::MakerMaker | Kind::Switching => pg_potential::holds(g, p, side),
     }
 }

@@ -54,7 +54,7 @@ fn answer_of(g: &Game, side: Side) -> Option<u16> {
         return None;
     }
     if g.kind == Kind::AvoiderEnforcer {
-        return Some(pg_avoider::answer(g, &p));
+        return Some(pg_potential::avoider::answer(g, &p));
     }
     Some(pg_potential::answer(g, &p, side))
 }

@@ -1,8 +1,7 @@
 use Rattle.std.proofs.Common.{map, get_or}
-use Rattle.pg_check.proofs.Common.{get_or_default, FollowsMove, Reply}
-use Rattle.pg_check.specs.Marks.{kept}
+use Rattle.pg_check.proofs.Common.{get_or_default, FollowsMove, Reply, kept}
 use Rattle.pg_check.specs.Present.{bare}
-use Rattle.pg_check.proofs.ReplyLemmas.{each-more}
+use Rattle.pg_potential.proofs.LineMasks.{each-more}
 use Rattle.pg_check.proofs.moves.all_follow.Goals as goal
 
 pub loop-reply-preserved : goal.loop-reply-preserved

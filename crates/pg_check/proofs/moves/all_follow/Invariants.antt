@@ -1,6 +1,5 @@
 use Rattle.std.proofs.Common.{◌<◌, ℕ, map, get_or}
-use Rattle.pg_check.proofs.Common.{FollowsMove, Reply}
-use Rattle.pg_check.specs.Marks.{kept}
+use Rattle.pg_check.proofs.Common.{FollowsMove, Reply, kept}
 use Rattle.pg_check.specs.Present.{bare}
 use Rattle.pg_check.proofs.moves.all_follow.Given as goal
 

@@ -1,7 +1,7 @@
 use Rattle.std.proofs.Common.{◌≡◌, ◌∙◌, ◌<◌, ℕ, true, sym, subst}
 use Rattle.pg_check.proofs.Common.{is_free, point_count}
 use Rattle.pg_check.proofs.Common.{IsPosition-after}
-use Rattle.pg_check.proofs.FlatMarks.{fits-row}
+use Rattle.pg_potential.proofs.FlatMarks.{fits-row}
 use Rattle.pg_check.proofs.moves.follows_move.Goals as goal
 
 pub returns : goal.returns

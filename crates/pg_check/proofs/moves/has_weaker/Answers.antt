@@ -1,7 +1,6 @@
 use Rattle.std.proofs.Common.{◌∙◌, ap, refl}
 use Rattle.std.specs.Prelude.{option_map}
-use Rattle.pg_check.proofs.Common.{slice_get-map, position_of}
-use Rattle.pg_check.specs.Marks.{kept}
+use Rattle.pg_check.proofs.Common.{slice_get-map, position_of, kept}
 use Rattle.pg_check.specs.Present.{bare}
 use Rattle.pg_check.proofs.KnownNodes.{bare-iff}
 use Rattle.pg_check.proofs.moves.has_weaker.Goals as goal

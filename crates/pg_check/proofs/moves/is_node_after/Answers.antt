@@ -1,5 +1,4 @@
-use Rattle.pg_check.proofs.Common.{after}
-use Rattle.pg_check.specs.Marks.{kept}
+use Rattle.pg_check.proofs.Common.{after, kept}
 use Rattle.pg_check.proofs.KnownNodes.{bare-iff}
 use Rattle.pg_check.proofs.moves.is_node_after.Goals as goal
 

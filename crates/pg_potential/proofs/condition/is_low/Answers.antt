@@ -4,15 +4,15 @@ use Rattle.std.proofs.lemmas.Nat.{mul-le}
 use Rattle.pg_potential.proofs.GreatestWeight.{greatest_weight-le}
 use Rattle.pg_potential.proofs.condition.is_low.Goals as goal
 
-pub returns-then-total-limit : goal.returns-then-total-limit
-returns-then-total-limit c = (
+pub returns-then-sum-most : goal.returns-then-sum-most
+returns-then-sum-most c = (
   λ f. absurd (false≢true f),
   λ h. absurd (omega (
     arith,
     h,
-    c.if-total-limit.true,
-    c.total_for-total.ensures.total,
-    c.limit-limit.ensures,
+    c.if-sum-most.true,
+    c.requires.sum,
+    c.requires.most,
   )),
 )
 
@@ -22,30 +22,30 @@ overflow_mul-times c =
     omega (arith, c.from-times.ensures, c.times_counted.ensures.few) in
     omega (
       arith,
-      mul-le c.from-times.result c.total_for-total.result 7
-          (2 ^ 115) times c.total_for-total.ensures.few,
+      mul-le c.from-times.result c.args.sum 7
+          (2 ^ 115) times c.requires.few,
     )
 
-pub overflow_add-total : goal.overflow_add-total
-overflow_add-total c =
+pub overflow_add-sum : goal.overflow_add-sum
+overflow_add-sum c =
     let times : c.from-times.result ≤ 7 =
     omega (arith, c.from-times.ensures, c.times_counted.ensures.few) in
     omega (
       arith,
-      mul-le c.from-times.result c.total_for-total.result 7
-          (2 ^ 115) times c.total_for-total.ensures.few,
-      c.total_for-total.ensures.few,
+      mul-le c.from-times.result c.args.sum 7
+          (2 ^ 115) times c.requires.few,
+      c.requires.few,
     )
 
-pub returns-then-total-times : goal.returns-then-total-times
-returns-then-total-times c =
+pub returns-then-sum-times : goal.returns-then-sum-times
+returns-then-sum-times c =
     let g = c.args.g.now in
     let p = c.args.p.now in
     let side = c.args.side in
     let t = c.from-times.result in
     let le = mul-le-mul_left t (greatest_weight-le g p side) in
-    let low = subst₂ (λ (a b : ℕ). a + t * a < b) c.total_for-total.ensures.total
-    c.limit-limit.ensures c.if-total-times.true in
+    let low = subst₂ (λ (a b : ℕ). a + t * a < b) c.requires.sum
+    c.requires.most c.if-sum-times.true in
     let all : total g p side + t * greatest_weight g p side < limit g = omega (arith, low, le) in (
       λ on. subst (λ (k : ℕ). total g p side + k * greatest_weight g p side < limit g)
           (c.from-times.ensures ∙ c.times_counted.ensures.times) all,
@@ -60,8 +60,8 @@ overflow_mul-result c =
       arith,
       c.greatest_weight.ensures,
       greatest_weight-le c.args.g.now c.args.p.now c.args.side,
-      c.total_for-total.ensures.total,
-      c.total_for-total.ensures.few,
+      c.requires.sum,
+      c.requires.few,
     ) in
     omega (arith, mul-le c.from-times.result c.greatest_weight.result 7 (2 ^ 115) times few)
 
@@ -73,11 +73,11 @@ overflow_add-result c =
       arith,
       c.greatest_weight.ensures,
       greatest_weight-le c.args.g.now c.args.p.now c.args.side,
-      c.total_for-total.ensures.total,
-      c.total_for-total.ensures.few,
+      c.requires.sum,
+      c.requires.few,
     ) in
     omega (
       arith,
       mul-le c.from-times.result c.greatest_weight.result 7 (2 ^ 115) times few,
-      c.total_for-total.ensures.few,
+      c.requires.few,
     )

@@ -1,11 +1,10 @@
-use Rattle.std.proofs.Common.{ℕ, ap, ◌∙◌}
-use Rattle.pg_switch.proofs.Common.{remove, lowest_free_edge}
-use Rattle.pg_switch.proofs.Replying.{remove_edges, joined-edges, short-found, reply-some}
-use Rattle.pg_switch.proofs.Replying.{reply-none}
+use Rattle.std.proofs.Common.{ℕ, Option, unwrap_or, ap, ap₂, ◌∙◌}
+use Rattle.pg_switch.proofs.Common.{remove, find, range_with_len, is_free}
+use Rattle.pg_switch.proofs.Replying.{remove_edges, joined-edges, short-found}
 use Rattle.pg_switch.proofs.answers.short_reply.Goals as goal
 
-pub crossing-requires-clause-sets : goal.crossing-requires-clause-sets
-crossing-requires-clause-sets c = record {
+pub crossing-found-requires-clause-sets : goal.crossing-found-requires-clause-sets
+crossing-found-requires-clause-sets c = record {
   first_range = joined-edges c.args.graph.now c.args.p.now c.args.one.now c.without.result
       c.union-joined.result c.args.x c.requires.x_range c.requires.sets.first_range
       c.without.ensures c.union-joined.ensures.union;
@@ -13,27 +12,17 @@ crossing-requires-clause-sets c = record {
       c.edge_count.result c.requires.sets.second_range c.without-candidates.ensures;
 }
 
-pub returns-in-Some-clause-reply : goal.returns-in-Some-clause-reply
-returns-in-Some-clause-reply c =
+pub returns-clause-reply : goal.returns-clause-reply
+returns-clause-reply c =
     let h = c.args.graph.now in
     let others =
     c.without-candidates.ensures ∙ ap (λ (m : ℕ). remove c.args.other.now m) c.edge_count.ensures in
     let found = short-found h c.args.p.now c.args.one.now c.args.other.now c.without.result
     c.union-joined.result c.without-candidates.result c.args.x c.ends_of-u.result.0
-    c.crossing.result c.requires.x_range c.requires.sets c.without.ensures
+    c.crossing-found.result c.requires.x_range c.requires.sets c.without.ensures
     c.union-joined.ensures.union others (ap (λ (q : ℕ × ℕ). q.0) c.ends_of-u.ensures.ends)
-    c.crossing.ensures.lowest c.crossing.ensures.none in
-    reply-some c.crossing.result _ c.in-Some.k (lowest_free_edge h c.args.p.now) found c.in-Some.is
-
-pub returns-in-None-clause-reply : goal.returns-in-None-clause-reply
-returns-in-None-clause-reply c =
-    let h = c.args.graph.now in
-    let others =
-    c.without-candidates.ensures ∙ ap (λ (m : ℕ). remove c.args.other.now m) c.edge_count.ensures in
-    let found = short-found h c.args.p.now c.args.one.now c.args.other.now c.without.result
-    c.union-joined.result c.without-candidates.result c.args.x c.ends_of-u.result.0
-    c.crossing.result c.requires.x_range c.requires.sets c.without.ensures
-    c.union-joined.ensures.union others (ap (λ (q : ℕ × ℕ). q.0) c.ends_of-u.ensures.ends)
-    c.crossing.ensures.lowest c.crossing.ensures.none in
-    reply-none c.crossing.result _ c.lowest_free.result
-    (lowest_free_edge h c.args.p.now) found c.in-None.is c.lowest_free.ensures
+    c.crossing-found.ensures.lowest c.crossing-found.ensures.none in
+    c.or_lowest.ensures
+    ∙ ap₂ (λ (o : Option ℕ) (m : ℕ).
+    unwrap_or o (unwrap_or (find (is_free c.args.p.now) (range_with_len 0 m)) 0)) found
+    c.edge_count-2.ensures

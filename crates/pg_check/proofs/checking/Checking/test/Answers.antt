@@ -1,9 +1,8 @@
 use Rattle.std.proofs.Common.{◌≡◌, ◌∙◌, ◌+◌, ◌-◌, ◌*◌, ◌∷◌, ◌++◌, [], Some, length, sym, subst, ap}
 use Rattle.std.proofs.Common.{refl, arith}
-use Rattle.pg_check.proofs.Common.{AreBelow, Position}
+use Rattle.pg_check.proofs.Common.{AreBelow, Position, kept}
 use Rattle.pg_cert.specs.declared.node_fault.NodeFault.TheVariants as faults
-use Rattle.pg_check.specs.Marks.{kept}
-use Rattle.pg_check.proofs.FlatMarks.{fits-row, made-more}
+use Rattle.pg_potential.proofs.FlatMarks.{fits-row, made-more}
 use Rattle.pg_check.specs.Checking.{Stands}
 use Rattle.pg_check.specs.Present.{IsLeastSoFar, IsSoundSoFar}
 use Rattle.pg_check.specs.Tester.{IsReadyFor}

@@ -1,8 +1,9 @@
 use Rattle.std.proofs.Common.{◌≡◌, ◌∙◌, Some, false, refl, sym, subst}
-use Rattle.pg_game.specs.Game.{is_over, after}
+use Rattle.pg_game.specs.Game.{is_over, after, start}
+use Rattle.pg_game.specs.Value.{rules_of}
 use Rattle.pg_player.specs.Player.{Play, MakesMove}
 use Rattle.pg_player.specs.Stand.{standing_of}
-use Rattle.pg_player.proofs.Plays.{reached-after}
+use Rattle.pg_switch.proofs.Seats.{reached-next}
 use Rattle.pg_player.proofs.Going.{on-going, on-turn, moved, x_range-next, small, IsPlaying-next}
 use Rattle.pg_player.proofs.player.Player.make_move.Goals as goal
 
@@ -70,9 +71,9 @@ invariant_of-self c =
     IsPlaying-next a.game.now a.claim.now
     (after a.game.now a.position v) c.after-next.result next c.over-self-inside.result a.judge
     c.over-self-inside.new.self a.joiner c.own_move-made.new.joiner made.on
-    (reached-after a.game.now a.position v i.reached going made.within made.free)
-    c.after-next.ensures c.over-self-inside.ensures.result i.judged c.over-self-inside.ensures.kept
-    i.joined c.own_move-made.ensures.joined
+    (reached-next (rules_of a.game.now) (start a.game.now) a.position v i.reached going made.within
+    made.free) c.after-next.ensures c.over-self-inside.ensures.result i.judged
+    c.over-self-inside.ensures.kept i.joined c.own_move-made.ensures.joined
 
 pub returns : goal.returns
 returns c =

@@ -3,7 +3,8 @@ use Rattle.pg_game.specs.Game.{start}
 use Rattle.pg_player.specs.Stand.{standing_of}
 use Rattle.pg_player.proofs.Opening.{chosen-is, sound-chosen, some_node, on-root, Settles-root}
 use Rattle.pg_player.proofs.Going.{IsPlaying-next}
-use Rattle.pg_player.proofs.Plays.{reached-start}
+use Rattle.pg_game.specs.Value.{rules_of}
+use Rattle.pg_switch.proofs.Seats.{reached-start}
 use Rattle.pg_player.proofs.player.Player.open.Goals as goal
 
 pub root-requires-clause-some : goal.root-requires-clause-some
@@ -34,8 +35,8 @@ invariant_of-result c =
     IsPlaying-next g claim (start g) c.start-position.result s c.over-ending.result c.in-Ok.judge
     c.over-ending.new.self c.in-Ok-joiner_for.joiner c.in-Ok-joiner_for.joiner
     (on-root g claim s sound is.turn_is c.root.ensures)
-    (reached-start g) c.start-position.ensures c.over-ending.ensures.result c.in-Ok.ensures.made
-    c.over-ending.ensures.kept c.in-Ok-joiner_for.ensures.joined refl
+    (reached-start (rules_of g) (start g)) c.start-position.ensures c.over-ending.ensures.result
+    c.in-Ok.ensures.made c.over-ending.ensures.kept c.in-Ok-joiner_for.ensures.joined refl
 
 pub returns-clause-side : goal.returns-clause-side
 returns-clause-side c =

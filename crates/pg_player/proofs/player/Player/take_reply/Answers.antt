@@ -1,9 +1,9 @@
 use Rattle.std.proofs.Common.{◌≡◌, ◌∙◌, ℕ, Some, refl, sym, subst}
-use Rattle.pg_player.proofs.Common.{Room, after, IsMadeForGame, replied, replied_by}
+use Rattle.pg_player.proofs.Common.{Room, rules_of, start, after, IsMadeForGame, replied}
+use Rattle.pg_player.proofs.Common.{replied_by}
 use Rattle.pg_player.specs.Player.{Play, Waits, TakesReply}
 use Rattle.pg_player.specs.Stand.{body_of, standing_of}
-use Rattle.pg_player.proofs.Replying.{judged-legal}
-use Rattle.pg_player.proofs.Plays.{reached-after}
+use Rattle.pg_switch.proofs.Seats.{judged-legal, reached-next}
 use Rattle.pg_player.proofs.Going.{x_range, x_range-next, small, heard-judged, IsPlaying-next}
 use Rattle.pg_player.proofs.player.Player.take_reply.Goals as goal
 
@@ -14,14 +14,14 @@ play-requires-clause-range c =
 pub free_or_lowest-reply-requires : goal.free_or_lowest-reply-requires
 free_or_lowest-reply-requires c =
     let a = c.self.inside in
-    let legal = judged-legal a.game.now a.position c.args.v c.in_ok-position.position
+    let legal = judged-legal (rules_of a.game.now) a.position c.args.v c.in_ok-position.position
     (sym c.play.ensures.result ∙ c.in_ok-position.was) in
     small a.game.now c.args.v legal.within
 
 pub over-self-inside-requires-clause-range : goal.over-self-inside-requires-clause-range
 over-self-inside-requires-clause-range c =
     let a = c.self.inside in
-    let legal = judged-legal a.game.now a.position c.args.v c.in_ok-position.position
+    let legal = judged-legal (rules_of a.game.now) a.position c.args.v c.in_ok-position.position
     (sym c.play.ensures.result ∙ c.in_ok-position.was) in
     x_range-next a.game.now a.position c.args.v c.in_ok-position.position c.self.invariant.reached
     legal.within legal.free legal.leads
@@ -47,7 +47,7 @@ pub invariant_of-self-2 : goal.invariant_of-self-2
 invariant_of-self-2 c =
     let a = c.self.inside in
     let i = c.self.invariant in
-    let legal = judged-legal a.game.now a.position c.args.v c.in_ok-position.position
+    let legal = judged-legal (rules_of a.game.now) a.position c.args.v c.in_ok-position.position
     (sym c.play.ensures.result ∙ c.in_ok-position.was) in
     let next = standing_of a.claim.now.nodes c.replied-self-inside.result in
     let hears =
@@ -58,8 +58,8 @@ invariant_of-self-2 c =
     IsPlaying-next a.game.now a.claim.now (after a.game.now a.position c.args.v)
     c.in_ok-position.position next c.over-self-inside.result c.play.new.self
     c.over-self-inside.new.self a.joiner a.joiner (hears.on next c.replied-self-inside.ensures)
-    (reached-after a.game.now a.position c.args.v i.reached legal.going legal.within legal.free)
-    legal.leads c.over-self-inside.ensures.result
+    (reached-next (rules_of a.game.now) (start a.game.now) a.position c.args.v i.reached legal.going
+    legal.within legal.free) legal.leads c.over-self-inside.ensures.result
     (subst (λ (room : Room). IsMadeForGame room a.game.now) (sym c.play.ensures.kept) i.judged)
     c.over-self-inside.ensures.kept i.joined refl
 

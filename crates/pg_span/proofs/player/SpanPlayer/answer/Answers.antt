@@ -1,11 +1,12 @@
-use Rattle.std.proofs.Common.{◌∙◌, true, false, Some, refl, sym, ap, subst}
-use Rattle.pg_game.specs.Rules.{moved}
+use Rattle.std.proofs.Common.{◌∙◌, refl, sym, subst}
+use Rattle.pg_span.proofs.Common.{edge_count}
+use Rattle.pg_switch.proofs.Seats.{judged-legal, on-over, due-reply}
 use Rattle.pg_span.specs.Plan.{plan_of}
-use Rattle.pg_span.specs.Player.{SpanPlay, SpanWaits, TakesSpanReply}
-use Rattle.pg_span.specs.Playing.{IsDue}
+use Rattle.pg_span.specs.Player.{SpanPlay, SpanWaits, TakesSpanReply, span_start}
 use Rattle.pg_span.specs.Game.{span_rules_of}
-use Rattle.pg_span.proofs.Keeping.{judged-legal, over-known, theirs, on-over, due-reply, range-next}
-use Rattle.pg_span.proofs.Keeping.{playing-next}
+use Rattle.pg_span.specs.Judge.{connects}
+use Rattle.pg_span.specs.Valid.{IsBodyAt}
+use Rattle.pg_span.proofs.Keeping.{more, range-own, playing-next}
 use Rattle.pg_span.proofs.player.SpanPlayer.answer.Goals as goal
 
 pub ending-ending-requires-clause-range : goal.ending-ending-requires-clause-range
@@ -13,7 +14,7 @@ ending-ending-requires-clause-range c =
     let a = c.self.inside in
     let legal = judged-legal (span_rules_of a.game.now) a.position c.args.v c.in_ok-replied.replied
     (sym c.play.ensures ∙ c.in_ok-replied.was) in
-    range-next a.game.now a.position c.in_ok-replied.replied c.args.v c.self.invariant.on.place
+    range-own a.game.now a.position c.in_ok-replied.replied c.args.v c.self.invariant.on.place
     (legal.within, legal.free) legal.leads
 
 pub invariant_of-self : goal.invariant_of-self
@@ -22,40 +23,27 @@ invariant_of-self c =
     let g = a.game.now in
     let side = a.claim.now.side in
     let plan = plan_of a.claim.now.body a.trees in
-    let r = span_rules_of g in
     let next = c.in_ok-replied.replied in
-    let legal =
-    judged-legal r a.position c.args.v next (sym c.play.ensures ∙ c.in_ok-replied.was) in
-    let view : SpanPlay = record { game = g; side = side; position = a.position; plan = plan } in
-    let yours = theirs view
-    (subst (λ (play : SpanPlay). SpanWaits play) (sym c.self.view_is) c.requires) legal.going in
-    let over = over-known r next c.ending-ending.result true c.ending-ending.ensures.ending
-    (sym (sym c.is_some.ensures ∙ c.if-is_some.true)) in
-    playing-next g side
-    (moved r a.position c.args.v) next plan c.ending-ending.result a.judge c.ending-ending.new.self
-    (on-over g side a.position plan c.args.v c.self.invariant.on legal.going yours
-    (legal.within, legal.free) (ap r.over (sym legal.leads) ∙ over)) legal.leads
-    c.ending-ending.ensures.ending c.self.invariant.judged c.ending-ending.ensures.kept
+    playing-next g side next next plan c.ending-ending.result a.judge c.ending-ending.new.self
+    (on-over (edge_count g.graph) (connects g.graph) (more g) (span_start g)
+    (λ q. IsBodyAt g q side plan) side a.position next c.args.v c.ending-ending.result
+    c.self.invariant.on
+    (subst (λ (play : SpanPlay). SpanWaits play) (sym c.self.view_is) c.requires)
+    (sym c.play.ensures ∙ c.in_ok-replied.was) c.ending-ending.ensures.ending
+    (sym (sym c.is_some.ensures ∙ c.if-is_some.true))) refl c.ending-ending.ensures.ending
+    c.self.invariant.judged c.ending-ending.ensures.kept
 
 pub make_move-requires : goal.make_move-requires
 make_move-requires c =
     let a = c.self.inside in
     let g = a.game.now in
     let side = a.claim.now.side in
-    let plan = plan_of a.claim.now.body a.trees in
-    let r = span_rules_of g in
-    let next = c.in_ok-replied.replied in
-    let legal =
-    judged-legal r a.position c.args.v next (sym c.play.ensures ∙ c.in_ok-replied.was) in
-    let view : SpanPlay = record { game = g; side = side; position = a.position; plan = plan } in
-    let yours = theirs view
-    (subst (λ (play : SpanPlay). SpanWaits play) (sym c.self.view_is) c.requires) legal.going in
-    let goes = over-known r next c.ending-ending.result false c.ending-ending.ensures.ending
-    (sym (sym c.is_some.ensures ∙ c.if-is_some.false)) in
-    subst (λ (q : Rattle.pg_game.specs.declared.position.Position.Position).
-    IsDue g side q plan (Some c.args.v)) (sym legal.leads)
-    (due-reply g side a.position plan c.args.v c.self.invariant.on legal.going yours
-    (legal.within, legal.free) (ap r.over (sym legal.leads) ∙ goes))
+    due-reply (edge_count g.graph) (connects g.graph) (more g) (span_start g)
+    (λ q. IsBodyAt g q side (plan_of a.claim.now.body a.trees)) side a.position
+    c.in_ok-replied.replied c.args.v c.ending-ending.result c.self.invariant.on
+    (subst (λ (play : SpanPlay). SpanWaits play) (sym c.self.view_is) c.requires)
+    (sym c.play.ensures ∙ c.in_ok-replied.was) c.ending-ending.ensures.ending
+    (sym (sym c.is_some.ensures ∙ c.if-is_some.false))
 
 pub returns-clause-answered : goal.returns-clause-answered
 returns-clause-answered c =

@@ -3,9 +3,9 @@ use Rattle.pg_game.specs.Rules.{moved}
 use Rattle.pg_span.specs.declared.judge.SpanJudge.{SpanJudge}
 use Rattle.pg_span.specs.Plan.{plan_of}
 use Rattle.pg_span.specs.Player.{SpanPlay, MakesSpanMove}
-use Rattle.pg_span.specs.Playing.{IsDue}
+use Rattle.pg_span.specs.Playing.{IsSpanDue}
 use Rattle.pg_span.specs.Game.{span_rules_of}
-use Rattle.pg_span.proofs.Keeping.{kept, on-own, small, range-next, judge-kept, playing-next}
+use Rattle.pg_span.proofs.Keeping.{kept, on-own, small, range-own, judge-kept, playing-next}
 use Rattle.pg_span.proofs.player.SpanPlayer.make_move.Goals as goal
 
 pub after-next-requires : goal.after-next-requires
@@ -17,7 +17,7 @@ after-next-requires c =
     let later = plan_of a.claim.now.body c.own_move-made.result.trees in
     let v = c.own_move-made.result.edge in
     let due =
-    subst (λ (play : SpanPlay). IsDue play.game play.side c.args.p.now play.plan c.args.last)
+    subst (λ (play : SpanPlay). IsSpanDue play.game play.side c.args.p.now play.plan c.args.last)
     (sym c.self.view_is) c.requires in
     small g v
     (kept g side c.args.p.now plan later c.args.last v due c.own_move-made.ensures.own).free.0
@@ -31,10 +31,10 @@ ending-self-inside-requires-clause-range c =
     let later = plan_of a.claim.now.body c.own_move-made.result.trees in
     let v = c.own_move-made.result.edge in
     let due =
-    subst (λ (play : SpanPlay). IsDue play.game play.side c.args.p.now play.plan c.args.last)
+    subst (λ (play : SpanPlay). IsSpanDue play.game play.side c.args.p.now play.plan c.args.last)
     (sym c.self.view_is) c.requires in
     let k = kept g side c.args.p.now plan later c.args.last v due c.own_move-made.ensures.own in
-    range-next g c.args.p.now c.after-next.result v due.place k.free c.after-next.ensures
+    range-own g c.args.p.now c.after-next.result v due.place k.free c.after-next.ensures
 
 pub invariant_of-self : goal.invariant_of-self
 invariant_of-self c =
@@ -45,7 +45,7 @@ invariant_of-self c =
     let later = plan_of a.claim.now.body c.own_move-made.result.trees in
     let v = c.own_move-made.result.edge in
     let due =
-    subst (λ (play : SpanPlay). IsDue play.game play.side c.args.p.now play.plan c.args.last)
+    subst (λ (play : SpanPlay). IsSpanDue play.game play.side c.args.p.now play.plan c.args.last)
     (sym c.self.view_is) c.requires in
     let k = kept g side c.args.p.now plan later c.args.last v due c.own_move-made.ensures.own in
     let judge : SpanJudge = record { joiner = c.own_move-made.new.joiner; whole = a.judge.whole } in
@@ -65,7 +65,7 @@ returns c =
     let later = plan_of a.claim.now.body c.own_move-made.result.trees in
     let v = c.own_move-made.result.edge in
     let due =
-    subst (λ (play : SpanPlay). IsDue play.game play.side c.args.p.now play.plan c.args.last)
+    subst (λ (play : SpanPlay). IsSpanDue play.game play.side c.args.p.now play.plan c.args.last)
     (sym c.self.view_is) c.requires in
     let k = kept g side c.args.p.now plan later c.args.last v due c.own_move-made.ensures.own in
     subst (λ (play : SpanPlay). MakesSpanMove (record {

@@ -1,8 +1,8 @@
-use Rattle.std.proofs.Common.{◌∙◌, true, false, Some, refl, sym, ap, subst}
-use Rattle.pg_vec_player.proofs.Common.{moved, vector_rules}
-use Rattle.pg_vec_player.specs.Player.{VecPlay, VecWaits, TakesVecReply}
-use Rattle.pg_vec_player.specs.Player.{IsVecDue}
-use Rattle.pg_vec_player.proofs.Keeping.{judged-legal, over-known, theirs, on-over, due-reply}
+use Rattle.std.proofs.Common.{◌∙◌, ℕ, Bool, length, refl, sym, subst}
+use Rattle.pg_vec_player.proofs.Common.{vector_spans, with_target}
+use Rattle.pg_switch.proofs.Seats.{on-over, due-reply}
+use Rattle.pg_vec_player.specs.Player.{VecPlay, VecWaits, TakesVecReply, VecPlanHolds, vec_start}
+use Rattle.pg_gf2.proofs.LawLemmas.{more}
 use Rattle.pg_vec_player.proofs.Keeping.{playing-next}
 use Rattle.pg_vec_player.proofs.player.VecPlayer.answer.Goals as goal
 
@@ -10,42 +10,27 @@ pub invariant_of-self : goal.invariant_of-self
 invariant_of-self c =
     let a = c.self.inside in
     let g = a.game.now in
-    let side = a.side in
-    let plan = a.plan in
-    let r = vector_rules g in
+    let n = length g.vectors in
     let next = c.in_ok-replied.replied in
-    let legal =
-    judged-legal r a.position c.args.v next (sym c.play.ensures ∙ c.in_ok-replied.was) in
-    let view : VecPlay = record { game = g; side = side; position = a.position; plan = plan } in
-    let yours = theirs view
-    (subst (λ (play : VecPlay). VecWaits play) (sym c.self.view_is) c.requires) legal.going in
-    let over = over-known r next c.ending-ending.result true c.ending-ending.ensures.ending
-    (sym (sym c.is_some.ensures ∙ c.if-is_some.true)) in
-    playing-next g side
-    (moved r a.position c.args.v) next plan c.ending-ending.result c.ending-ending.new.self
-    (on-over g side a.position plan c.args.v c.self.invariant.on legal.going yours
-    (legal.within, legal.free) (ap r.over (sym legal.leads) ∙ over)) legal.leads
-    c.ending-ending.ensures.ending c.ending-ending.ensures.kept
+    playing-next g a.side next next a.plan c.ending-ending.result c.ending-ending.new.self
+    (on-over n (λ (set : ℕ → Bool). vector_spans (with_target g) set n) (more g) (vec_start g)
+    (λ q. VecPlanHolds g a.side q a.plan) a.side a.position next c.args.v c.ending-ending.result
+    c.self.invariant.on (subst (λ (play : VecPlay). VecWaits play) (sym c.self.view_is) c.requires)
+    (sym c.play.ensures ∙ c.in_ok-replied.was) c.ending-ending.ensures.ending
+    (sym (sym c.is_some.ensures ∙ c.if-is_some.true))) refl c.ending-ending.ensures.ending
+    c.ending-ending.ensures.kept
 
 pub make_move-requires : goal.make_move-requires
 make_move-requires c =
     let a = c.self.inside in
     let g = a.game.now in
-    let side = a.side in
-    let plan = a.plan in
-    let r = vector_rules g in
-    let next = c.in_ok-replied.replied in
-    let legal =
-    judged-legal r a.position c.args.v next (sym c.play.ensures ∙ c.in_ok-replied.was) in
-    let view : VecPlay = record { game = g; side = side; position = a.position; plan = plan } in
-    let yours = theirs view
-    (subst (λ (play : VecPlay). VecWaits play) (sym c.self.view_is) c.requires) legal.going in
-    let goes = over-known r next c.ending-ending.result false c.ending-ending.ensures.ending
-    (sym (sym c.is_some.ensures ∙ c.if-is_some.false)) in
-    subst (λ (q : Rattle.pg_game.specs.declared.position.Position.Position).
-    IsVecDue g side q plan (Some c.args.v)) (sym legal.leads)
-    (due-reply g side a.position plan c.args.v c.self.invariant.on legal.going yours
-    (legal.within, legal.free) (ap r.over (sym legal.leads) ∙ goes))
+    let n = length g.vectors in
+    due-reply n (λ (set : ℕ → Bool). vector_spans (with_target g) set n) (more g) (vec_start g)
+    (λ q. VecPlanHolds g a.side q a.plan) a.side a.position c.in_ok-replied.replied c.args.v
+    c.ending-ending.result c.self.invariant.on
+    (subst (λ (play : VecPlay). VecWaits play) (sym c.self.view_is) c.requires)
+    (sym c.play.ensures ∙ c.in_ok-replied.was) c.ending-ending.ensures.ending
+    (sym (sym c.is_some.ensures ∙ c.if-is_some.false))
 
 pub returns-clause-answered : goal.returns-clause-answered
 returns-clause-answered c =

@@ -1,3 +1,0 @@
-mod Common
-pub mod Least
-pub mod AvoiderLaws

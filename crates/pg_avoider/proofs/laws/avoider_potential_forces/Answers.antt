@@ -1,5 +1,0 @@
-use Rattle.pg_avoider.proofs.AvoiderLaws.{Forces-avoider}
-use Rattle.pg_avoider.proofs.laws.avoider_potential_forces.Goals as goal
-
-pub returns : goal.returns
-returns c = Forces-avoider

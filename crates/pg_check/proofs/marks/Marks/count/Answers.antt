@@ -1,8 +1,0 @@
-use Rattle.std.proofs.Common.{◌≡◌, ◌∙◌, length, sym, arith}
-use Rattle.pg_check.proofs.FlatMarks.{length-kept}
-use Rattle.pg_check.proofs.marks.Marks.count.Goals as goal
-
-pub returns : goal.returns
-returns c =
-    let count : c.len.result ≡ length c.args.self.now.turns.items = omega (arith, c.len.ensures) in
-    count ∙ sym (length-kept c.args.self.now)
