@@ -1,5 +1,5 @@
-# Completion of posgame, posgame-draw and posgame-why for bash: commands, options, and files by the
-# ending of their names. bench/release.py tries it.
+# Completion of posgame, posgame-draw and posgame-settle for bash: commands, options, and files by
+# the ending of their names. bench/release.py tries it.
 
 # Adds the directories and the files named *.$1 that begin with $2 to COMPREPLY.
 _posgame_files() {
@@ -52,7 +52,7 @@ _posgame_read() {
     local at word
     for ((at = 1; at < COMP_CWORD; at++)); do
         word=${COMP_WORDS[at]}
-        if [ "$word" = --side ] || [ "$word" = --positions ]; then
+        if [[ $word == --@(side|positions|entries|nodes) ]]; then
             [ "${COMP_WORDS[at + 1]}" = = ] && at=$((at + 1))
             at=$((at + 1))
             ((at < COMP_CWORD)) || pending=$word
@@ -87,6 +87,22 @@ _posgame() {
     fi
 }
 
+# The words of posgame-settle are those of a command of posgame without its name.
+_posgame_settle() {
+    local current=${COMP_WORDS[COMP_CWORD]} command=settle place=0 pending=''
+    COMPREPLY=()
+    [ "$current" = = ] && current=''
+    _posgame_read
+    if [ -n "$pending" ]; then
+        :
+    elif [[ $current == -* ]]; then
+        _posgame_words '--positions --entries --nodes --images --help --version' "$current"
+    elif ((place < 2)); then
+        local -a endings=(game cert)
+        _posgame_files "${endings[place]}" "$current"
+    fi
+}
+
 _posgame_draw() {
     COMPREPLY=()
     case $COMP_CWORD in
@@ -97,3 +113,4 @@ _posgame_draw() {
 
 complete -F _posgame posgame ./posgame
 complete -F _posgame_draw posgame-draw ./posgame-draw
+complete -F _posgame_settle posgame-settle ./posgame-settle

@@ -11,22 +11,27 @@
 # tells.
 # shellcheck shell=bash disable=SC2034,SC2153 # run.bash shares its variables
 
-# Sets `POSITIONALS`, `SIDE` and `OPTIONS` (a row of the options' names) by the words. Fails where a
-# word has no meaning wherever it stands.
+# Sets `POSITIONALS`, `SIDE` and `OPTIONS` (a row of the options' names) by the words from the
+# second on; the first has the options with a value, with blanks around each. Fails where a word has
+# no meaning wherever it stands.
 split_words() {
+    local valued=$1 name
+    shift
     POSITIONALS=() SIDE='' OPTIONS=''
     while (($#)); do
+        name=${1%%=*}
         case $1 in
             --) POSITIONALS+=("${@:2}") && return ;;
-            --positions | --side)
-                [[ $# -gt 1 && $2 != -* ]] || return
-                OPTIONS+=" $1"
-                [[ $1 == --side ]] && SIDE=$2
-                shift
-                ;;
-            --positions=*) OPTIONS+=' --positions' ;;
-            --side=*) OPTIONS+=' --side' SIDE=${1#*=} ;;
             --images) OPTIONS+=' --images' ;;
+            --*)
+                [[ $valued == *" $name "* ]] || return
+                OPTIONS+=" $name"
+                if [[ $1 == "$name" ]]; then
+                    [[ $# -gt 1 && $2 != -* ]] || return
+                    shift
+                fi
+                [[ $name == --side ]] && SIDE=${1#*=}
+                ;;
             -?*) return 1 ;;
             *) POSITIONALS+=("$1") ;;
         esac
@@ -43,12 +48,20 @@ read_draw_words() {
     (($# < 3)) || [[ $3 =~ ^(${number}[.])?$number$ ]] || COMMAND=''
 }
 
+# Sets what `read_words` sets, for posgame-settle, whose words are two names and options.
+read_settle_words() {
+    COMMAND='' FAMILY='' GAME='' OTHER=''
+    split_words ' --positions --entries --nodes ' "$@" || return 0
+    ((${#POSITIONALS[@]} == 2)) || return 0
+    COMMAND=settle GAME=${POSITIONALS[0]} OTHER=${POSITIONALS[1]}
+}
+
 # Sets `COMMAND` (empty where the words name none), `FAMILY` (`span`, `vec` or nothing), and the
 # names `GAME` and `OTHER`, a certificate or record. Numbers aren't looked at: the program does.
 read_words() {
     local at=1 count
     COMMAND='' FAMILY='' GAME='' OTHER=''
-    split_words "$@" || return 0
+    split_words ' --positions --side ' "$@" || return 0
     case ${POSITIONALS[0]-} in
         span | vec) FAMILY=${POSITIONALS[0]} at=2 ;;
     esac
@@ -74,7 +87,7 @@ read_words() {
 find_written() {
     WRITTEN=()
     case $COMMAND in
-        solve | record) WRITTEN=("$OTHER") ;;
+        solve | record | settle) WRITTEN=("$OTHER") ;;
         gen) WRITTEN=("$GAME" ${OTHER:+"$OTHER"}) ;;
     esac
 }
@@ -155,8 +168,7 @@ prepare() {
 
 # Prints the name and the version, and then how the program is called.
 print_usage() {
-    local version='' usage=$TEXTS/usage.txt
-    [[ $NAME == posgame-draw ]] && usage=$TEXTS/usage-draw.txt
+    local version='' usage=$TEXTS/usage${NAME#posgame}.txt
     [[ -r $VERSION ]] && read -r version < "$VERSION"
     printf '%s %s\n%s\n' "$NAME" "$version" "$(< "$usage")"
 }
@@ -295,6 +307,7 @@ ask_again() {
     case $COMMAND:$STATUS in
         draw:3) words=("$GAME") ;;
         draw:4) words=("$@") ;;
+        settle:3) words=(--positions 1 -- "$GAME" /dev/null) ;;
         review:3) words=(review --positions 1 -- "$GAME" /dev/null) ;;
         *:3) words=(${FAMILY:+"$FAMILY"} check -- "$GAME" /dev/null) ;;
         *:4) words=(${FAMILY:+"$FAMILY"} check -- "$GAME" "$OTHER") ;;
@@ -347,21 +360,24 @@ explain_fault() {
 
 # Status 1: what to try next.
 explain_open() {
-    if [[ $OPTIONS == *--positions* ]]; then
-        say 'the search ended without an answer; try it without --positions'
+    if [[ $COMMAND == settle ]]; then
+        say 'no proof was found; try greater numbers after --positions and --entries, or the game' \
+            'after some moves, with their marks in the game file'
+    elif [[ $OPTIONS == *--positions* ]]; then
+        say "the search ended without an answer; try it without --positions, or \`posgame-settle\`"
     elif [[ $COMMAND == review ]]; then
         say 'a position stays open; try a review of the moves after it alone,' \
             'from a game file with the marks of a later position'
     else
-        say 'the search ended without an answer; try the game after some moves,' \
-            'with their marks in the game file, or a smaller board'
+        say "the search ended without an answer; try \`posgame-settle\`, which searches longer," \
+            'or the game after some moves, with their marks in the game file'
     fi
 }
 
 # Says what the status means, with what is found in the words and the files of this run.
 explain() {
-    # The program posgame-draw says these itself.
-    [[ $NAME == posgame-draw && $STATUS == [2567] ]] && return
+    # The programs posgame-draw and posgame-settle say these themselves.
+    [[ $NAME != posgame && $STATUS == [2567] ]] && return
     trap '' PIPE
     "$READER" "$@"
     find_written

@@ -1,10 +1,11 @@
 # Runs a program as if it had been called itself, and says on standard error what went wrong once it
-# has ended. Sourced by the scripts posgame and posgame-draw, of a checkout and installed. They set
+# has ended. Sourced by the scripts posgame, posgame-draw and posgame-settle, of a checkout and
+# installed. They set
 #   NAME     what they are called
 #   PROGRAM  the file of the program
 #   TEXTS    the folder of this file, of explain.bash, codes.txt and the usage
 #   VERSION  the file with the version
-#   READER   the function that reads the words: read_words or read_draw_words
+#   READER   the function that reads the words: read_words, read_draw_words or read_settle_words
 # and then call `run_program` with the words. The program gets standard input, output and error as
 # they are: nothing stands between, so that no byte waits and a dialogue on a terminal stays one.
 # What the program printed is therefore not seen here; explain.bash says how it gets the text.
@@ -76,8 +77,8 @@ load_texts() {
 # Runs the program with the words, says what went wrong, and ends as it did.
 run_program() {
     WRITTEN=()
-    case " $* " in
-        *' solve '* | *' record '* | *' gen '*) load_texts && prepare "$@" ;;
+    case "$NAME $* " in
+        *' solve '* | *' record '* | *' gen '* | 'posgame-settle '*) load_texts && prepare "$@" ;;
     esac
     run_child "$@"
     if ((STATUS > 128 && ${#WRITTEN[@]})); then

@@ -1,5 +1,6 @@
 # Which program a checkout runs: the proved one where no source of it is newer, and else one that
-# `rt try` makes of the sources before their proof. Sourced by ./posgame and ./posgame-draw.
+# `rt try` makes of the sources before their proof. Sourced by ./posgame, ./posgame-draw and
+# ./posgame-settle.
 #
 # `rt try` itself runs a program once, on copies of files, and hands out what it printed when it has
 # ended. So the one that it makes is kept, under out/unproved/, and run like the proved one: files,

@@ -166,8 +166,27 @@ class Game:
         is_searched = _header(self.text) not in FAMILIES
         words = ["solve", "GAME", "CERT"] + (["--images"] if images and is_searched else [])
         words += ["--positions", str(positions)] if positions is not None and is_searched else []
-        done = answer_of(self._run(words), [0, 1])
-        said = done.lines[-1].split()
+        return self._solution(self._run(words))
+
+    def settle(self, positions: Optional[int] = None, entries: Optional[int] = None,
+               nodes: Optional[int] = None, images: bool = False) -> Solution:
+        """Decides a game that `solve` leaves open, by the longer search of `posgame-settle`.
+
+        At most `positions` positions are expanded, and `entries` of them kept at a time; the
+        certificate has at most `nodes` nodes. If one is none, the program has a limit of its own.
+        `images` as in `solve`. It takes games on lines and switching games.
+        """
+        limits = {"positions": positions, "entries": entries, "nodes": nodes}
+        words = ["GAME", "CERT"] + (["--images"] if images else [])
+        words += [f"--{name}={limit}" for name, limit in limits.items() if limit is not None]
+        done = run("posgame-settle", words, {"GAME": bytes_of(self.text)})
+        if done.status == 2:
+            raise error_of("words: no meaning", done.status)
+        return self._solution(done)
+
+    def _solution(self, done: Run) -> Solution:
+        """Returns the answer of a run that solves the game."""
+        said = answer_of(done, [0, 1]).lines[0].split()
         if done.status == 1:
             return Solution(self, "unknown", None, int(said[2]))
         return Solution(self, said[1], text_of(done.certificate or b""))

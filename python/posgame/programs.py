@@ -13,6 +13,7 @@ from .errors import STATUSES, ProgramMissing, RunFailed, error_of
 NAMES = {
     "posgame": ["posgame", "posgame/out/posgame"],
     "posgame-draw": ["posgame-draw", "posgame_draw", "posgame_draw/out/posgame_draw"],
+    "posgame-settle": ["posgame-settle", "posgame_settle", "posgame_settle/out/posgame_settle"],
 }
 
 
@@ -45,7 +46,7 @@ def places(program: str) -> Iterator[pathlib.Path]:
 
 
 def find(program: str) -> str:
-    """Returns the path of `posgame` or `posgame-draw`.
+    """Returns the path of `posgame`, `posgame-draw` or `posgame-settle`.
 
     The environment variable POSGAME is the path of `posgame`, or of a folder with the programs.
     """

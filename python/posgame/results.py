@@ -26,7 +26,7 @@ class Claim:
 
 @dataclass(frozen=True)
 class Solution:
-    """The answer of `Game.solve`, with its proof.
+    """The answer of `Game.solve` or `Game.settle`, with its proof.
 
     `answer` is the winner ("maker", "breaker", "x", "y", "avoider", "enforcer"), "draw", a class
     ("short", "cut", "maker", "breaker", "first-mover"), or "unknown". Then `positions` is how many

@@ -144,6 +144,25 @@ class Answers(unittest.TestCase):
         self.assertEqual((solution.answer, solution.positions, solution.decided),
                          ("unknown", 1, False))
 
+    def test_settled(self) -> None:
+        if not is_there("posgame-settle"):
+            self.skipTest("posgame-settle is not found")
+        game = Game.from_lines(ROWS, kind="maker-maker")
+        for images in (False, True):
+            solution = game.settle(entries=100_000, images=images)
+            self.assertEqual((solution.answer, solution.decided), ("draw", True))
+            self.assertEqual(solution.check(), solution.check_again())
+        solution = game.settle(positions=1)
+        self.assertEqual((solution.answer, solution.positions, solution.decided),
+                         ("unknown", 1, False))
+        with self.assertRaises(RunFailed) as raised:
+            game.settle(nodes=0)
+        self.assertEqual((raised.exception.text, raised.exception.status), ("words: no meaning", 2))
+        edges = [(0, 1), (0, 1)]
+        self.assertEqual(Game.from_graph(edges, terminals=(0, 1)).settle().answer, "short")
+        with self.assertRaises(FileError):
+            Game.from_graph(edges).settle()
+
     def test_images(self) -> None:
         solution = Game.from_grid(3, 3, lines=ROWS).solve(images=True)
         self.assertTrue(str(solution.certificate).startswith("posgame-cert 3\n"))
@@ -358,8 +377,9 @@ class Examples(unittest.TestCase):
             self.assertGreater(done.attempted, 0)
 
     def test_page(self) -> None:
-        if not is_there("posgame-draw"):
-            self.skipTest("posgame-draw is not found")
+        for program in ("posgame-draw", "posgame-settle"):
+            if not is_there(program):
+                self.skipTest(f"{program} is not found")
         here = os.getcwd()
         chosen = {name: os.path.abspath(os.environ[name]) for name in ("POSGAME",)
                   if os.environ.get(name)}

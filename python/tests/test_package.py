@@ -12,7 +12,7 @@ import zipfile
 from unittest import mock
 
 from posgame import Game, ProgramMissing
-from posgame.programs import find
+from posgame.programs import NAMES, find
 
 from beside import TOP
 
@@ -89,15 +89,15 @@ class Found(unittest.TestCase):
         return str(path)
 
     def test_by_the_variable(self) -> None:
-        one, draw = self.put("posgame/out/posgame"), self.put("posgame_draw/out/posgame_draw")
-        for value in (one, str(self.folder)):
+        paths = [self.put(f"{it}/out/{it}") for it in ("posgame", "posgame_draw", "posgame_settle")]
+        for value in (paths[0], str(self.folder)):
             with mock.patch.dict(os.environ, {"POSGAME": value, "PATH": ""}):
-                self.assertEqual((find("posgame"), find("posgame-draw")), (one, draw))
+                self.assertEqual([find(it) for it in NAMES], paths)
 
     def test_on_the_path(self) -> None:
-        one, draw = self.put("posgame"), self.put("posgame-draw")
+        paths = [self.put(it) for it in NAMES]
         with mock.patch.dict(os.environ, {"POSGAME": "", "PATH": f"/nowhere:{self.folder}"}):
-            self.assertEqual((find("posgame"), find("posgame-draw")), (one, draw))
+            self.assertEqual([find(it) for it in NAMES], paths)
 
     def test_a_wrong_variable_is_an_error(self) -> None:
         self.put("posgame")

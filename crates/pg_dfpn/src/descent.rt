@@ -4,7 +4,6 @@ ghost use Rattle.pg_dfpn.specs.Prelude.{Fits, lines_of};
 ghost use Rattle.pg_dfpn.specs.Asking.{IsRead};
 
 use crate::judging::{Asked, judged};
-use crate::key::key_of;
 use crate::moving::{play_free, undo_last};
 use crate::numbers::{Numbers, State};
 use crate::survey::{Frame, Survey};
@@ -12,6 +11,7 @@ use crate::table::Table;
 use pg_base::{MAX_MEMBERS, Memory};
 use pg_board::Board;
 use pg_game::{Game, Position};
+use pg_leaf::Key;
 use pg_match::PairCache;
 use std::alloc::Global;
 
@@ -30,7 +30,7 @@ pub(crate) struct Search {
 pub(crate) fn numbers_after(g: &Game, p: &Position, v: u16, table: &Table) -> Option<Numbers>
     requires { v < MAX_MEMBERS }
 {
-    table.find(&key_of(&g.after(p, v)))
+    table.find(&Key::of(&g.after(p, v)))
 }
 
 /// What the moves at the position tell that were met.
@@ -63,7 +63,7 @@ fn meet(
     ensures fits { Fits cache.new (lines_of asked.entry.game.now) }
     ensures most { table.new.most ≡ table.old.most }
 {
-    let key = key_of(&asked.game.after(p, v));
+    let key = Key::of(&asked.game.after(p, v));
     if let Some(numbers) = table.find(&key) {
         return Ok(numbers.of(p.turn) == 0);
     }
@@ -98,7 +98,7 @@ fn expand(
 
 /// Whether the position is expanded.
 fn is_expanded(p: &Position, table: &Table) -> bool {
-    match table.find(&key_of(p)) {
+    match table.find(&Key::of(p)) {
         Some(numbers) => numbers.state == State::Expanded,
         None => false,
     }
@@ -125,7 +125,7 @@ fn visit(
         expand(alloc, asked, &p, board, cache, &mut search.table)?;
     }
     let survey = survey_at(asked.game, &p, &search.table);
-    search.table.put(key_of(&p), survey.numbers())?;
+    search.table.put(Key::of(&p), survey.numbers())?;
     Ok(survey)
 }
 

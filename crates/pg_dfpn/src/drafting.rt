@@ -6,7 +6,6 @@ ghost use Rattle.pg_dfpn.specs.Drafted.{AreFit, IsPlainBody};
 
 use crate::descent::{numbers_after, survey_at};
 use crate::judging::{Asked, judge};
-use crate::key::{Key, key_of};
 use crate::moving::{play_free, undo_last};
 use crate::numbers::State;
 use crate::table::Table;
@@ -14,6 +13,7 @@ use pg_base::{MAX_MEMBERS, Memory, Side};
 use pg_board::Board;
 use pg_cert::{Body, MAX_CLAIM_NODES, Node, Replies, Reply};
 use pg_game::{Game, Position};
+use pg_leaf::Key;
 use pg_match::PairCache;
 use std::alloc::Global;
 use std::collections::HashMap;
@@ -69,7 +69,7 @@ impl Draft {
         requires { v < MAX_MEMBERS }
         ensures { IfSome result (λ n. n < MAX_CLAIM_NODES) }
     {
-        match self.numbers.get(&key_of(&g.after(p, v))) {
+        match self.numbers.get(&Key::of(&g.after(p, v))) {
             Some(found) => Some(found.number),
             None => None,
         }
@@ -106,7 +106,7 @@ impl Draft {
     /// The point that leads to a node which must come before that of the position, and None where
     /// there is none.
     fn missing(&self, g: &Game, p: &Position, table: &Table) -> Option<u16> {
-        let numbers = table.find(&key_of(p))?;
+        let numbers = table.find(&Key::of(p))?;
         if numbers.state == State::Leaf {
             return None;
         }
@@ -160,7 +160,7 @@ impl Draft {
         ensures body { IfOk result (λ r. IfSome r IsPlainBody) }
     {
         let p = board.position();
-        let Some(numbers) = table.find(&key_of(&p)) else {
+        let Some(numbers) = table.find(&Key::of(&p)) else {
             return Ok(None);
         };
         if numbers.state != State::Leaf {
@@ -205,7 +205,7 @@ impl Draft {
         let number = Number {
             number: number as u32,
         };
-        self.numbers.insert(key_of(&p), number)?;
+        self.numbers.insert(Key::of(&p), number)?;
         self.nodes.push(Node {
             x: p.x,
             y: p.y,

@@ -5,7 +5,6 @@
 mod descent;
 mod drafting;
 mod judging;
-mod key;
 mod limits;
 mod moving;
 mod numbers;

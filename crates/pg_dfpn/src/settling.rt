@@ -8,7 +8,6 @@ ghost use Rattle.pg_dfpn.specs.Settled.{IsSettled};
 use crate::descent::{Search, descend};
 use crate::drafting::{Draft, claimer};
 use crate::judging::{Asked, judged, total_at};
-use crate::key::key_of;
 use crate::limits::Limits;
 use crate::moving::go_up;
 use crate::table::Table;
@@ -16,6 +15,7 @@ use pg_base::{Goal, Kind, Memory, Score};
 use pg_board::Board;
 use pg_cert::{Claim, Nodes};
 use pg_game::Game;
+use pg_leaf::Key;
 use pg_match::PairCache;
 use std::alloc::Global;
 
@@ -98,7 +98,7 @@ fn search_from(
     ensures most { search.new.table.most ≡ search.old.table.most }
     ensures few { search.new.expanded ≤ asked.entry.limits.positions }
 {
-    let key = key_of(&board.position());
+    let key = Key::of(&board.position());
     let first = judged(alloc, asked, board, cache)?;
     search.table.put(key, first)?;
     if first.answer().is_none() {

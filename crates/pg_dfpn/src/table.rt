@@ -2,9 +2,9 @@
 ghost use Rattle.std.specs.Prelude.{◌≡◌, ◌≤◌, ◌↔◌, IsTrue};
 ghost use Rattle.pg_dfpn.specs.Prelude.{hash_map_len};
 
-use crate::key::Key;
 use crate::numbers::Numbers;
 use pg_base::Memory;
+use pg_leaf::Key;
 use std::alloc::Global;
 use std::collections::HashMap;
 

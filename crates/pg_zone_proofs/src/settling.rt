@@ -1,0 +1,81 @@
+//! The search as it is called.
+ghost use Rattle.std.specs.Prelude.{◌≡◌, ◌≤◌, IfOk};
+ghost use Rattle.pg_zone_proofs.specs.Prelude.{MakerBreaker};
+ghost use Rattle.pg_zone_proofs.specs.Settled.{IsSettled};
+
+use crate::drafting::nodes_of;
+use pg_base::{Goal, Memory, Side};
+use pg_cert::{Claim, Nodes};
+use pg_dfpn::{Limits, Settled, Settling};
+use pg_game::Game;
+use pg_zones::{Found, Limits as SearchLimits, search};
+use std::alloc::Global;
+
+/// Returns the answer that the pattern shows, with its claim; unknown if the claim has too many
+/// nodes.
+fn claimed(alloc: Global, g: &Game, found: &Found, pattern: u32) -> Result<Settled, Memory>
+    ensures { IfOk result (IsSettled g.now) }
+{
+    let Some(side) = found.known.claimer(pattern) else {
+        return Ok(Settled::Unknown);
+    };
+    let Some(nodes) = nodes_of(alloc, found, pattern)? else {
+        return Ok(Settled::Unknown);
+    };
+    let claim = Claim {
+        turn: g.turn,
+        side,
+        goal: Goal::Win,
+        nodes: Nodes::from_vec(nodes),
+    };
+    match side {
+        Side::X => Ok(Settled::Yes(claim)),
+        Side::Y => Ok(Settled::No(claim)),
+    }
+}
+
+/// Returns the limits as the search takes them.
+fn searched(limits: &Limits) -> SearchLimits
+    ensures positions { result.positions ≡ limits.now.positions }
+    ensures entries { result.entries ≡ limits.now.entries }
+{
+    SearchLimits {
+        positions: limits.positions,
+        entries: limits.entries,
+        first_steps: limits.first_steps,
+        steps: limits.steps,
+    }
+}
+
+/// Returns whether Maker, who is X, wins from the game's position if each side claims one point a
+/// turn, with a claim that is to show it; or unknown if the limits don't suffice.
+///
+/// `search` of `pg_zones` decides the position, and its patterns are written as nodes, each at the
+/// position in which the claimer has the points that it needs and the other side all points that
+/// the claimer doesn't need. A node at a better position refers to such a node, or repeats its
+/// reason.
+///
+/// A claim is within the limits of version 2 of the format, so the checker can judge it. No clause
+/// says that it is valid.
+///
+/// # Errors
+///
+/// `Memory` if an allocation fails.
+pub fn settle(alloc: Global, g: &Game, limits: Limits) -> Result<Settling, Memory>
+    requires kind { g.now.kind ≡ MakerBreaker }
+    requires single { g.now.bias ≡ 1 }
+    ensures answer { IfOk result (λ settling. IsSettled g.now settling.answer) }
+    ensures expanded { IfOk result (λ settling. settling.expanded ≤ limits.positions) }
+    ensures entries { IfOk result (λ settling. settling.entries ≤ limits.entries) }
+{
+    let found = search(alloc, g, searched(&limits))?;
+    let answer = match found.root {
+        Some(pattern) => claimed(alloc, g, &found, pattern)?,
+        None => Settled::Unknown,
+    };
+    Ok(Settling {
+        answer,
+        expanded: found.known.expanded(),
+        entries: found.known.entries(),
+    })
+}

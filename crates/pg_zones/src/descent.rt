@@ -1,0 +1,224 @@
+//! The search.
+ghost use Rattle.std.specs.Prelude.{◌≡◌, IfOk};
+
+use crate::averages::Averages;
+use crate::expanding::Expanded;
+use crate::finder::Finder;
+use crate::known::{Entry, Glimpse, Known, Undecided};
+use crate::limits::Limits;
+use crate::numbers::{INFINITE, Numbers};
+use crate::survey::{Frame, Survey};
+use crate::trials::Trials;
+use pg_base::Memory;
+use pg_game::Game;
+use pg_patterns::{Arena, Spot, heaviest_first, total_weight, weigh};
+use std::alloc::Global;
+
+/// The most looks at positions for each position that may be expanded.
+const VISITS: u64 = 256;
+
+/// The result of a search.
+#[derive(Debug, Drop)]
+pub struct Found {
+    /// The game as the search sees it.
+    pub arena: Arena,
+    /// What the search knows.
+    pub known: Known,
+    /// The number of the pattern that decides the game's own position, where one is found.
+    pub root: Option<u32>,
+}
+
+/// The outcome of looking at a frame.
+#[derive(Debug, Drop)]
+enum Looked {
+    /// The pattern of this number decides its position.
+    Decided(u32),
+    /// Nothing more is done at it now.
+    Ended,
+    /// It is to be looked at again, and before it the position after a move, up to these numbers.
+    Going(Spot, Numbers),
+    /// It is to be looked at again.
+    Again,
+}
+
+impl Finder {
+    /// Returns a frame of the position.
+    fn frame(
+        &self,
+        alloc: Global,
+        spot: &Spot,
+        going: Undecided,
+        limits: Numbers,
+    ) -> Result<Frame, Memory> {
+        let live = self.arena.live(alloc, spot)?;
+        let weights = weigh(live.as_slice(), self.arena.longest);
+        Ok(Frame {
+            spot: *spot,
+            order: heaviest_first(alloc, &weights, going.must)?,
+            going,
+            total: weights.total,
+            limits,
+        })
+    }
+
+    /// Goes down to a position.
+    fn enter(
+        &mut self,
+        alloc: Global,
+        spot: &Spot,
+        limits: Numbers,
+        frames: &mut Vec<Frame>,
+    ) -> Result<(), Memory>
+        ensures { self.new.known.limits ≡ self.old.known.limits }
+    {
+        let going = match self.known.take(spot) {
+            Some(Entry::Undecided(going)) => going,
+            Some(Entry::Decided(number)) => {
+                return self.known.put(*spot, Entry::Decided(number));
+            }
+            None => match self.expand(alloc, spot)? {
+                Some(Expanded::Undecided(going)) => going,
+                Some(Expanded::Decided(number)) => {
+                    return self.known.put(*spot, Entry::Decided(number));
+                }
+                None => return Ok(()),
+            },
+        };
+        let frame = self.frame(alloc, spot, going, limits)?;
+        frames.push(frame)?;
+        Ok(())
+    }
+
+    /// Keeps the pattern that decides the frame's position, if its moves tell one, and returns its
+    /// number.
+    fn decided(
+        &mut self,
+        alloc: Global,
+        frame: &Frame,
+        survey: &Survey,
+    ) -> Result<Option<u32>, Memory>
+        ensures { self.new.known.limits ≡ self.old.known.limits }
+    {
+        if let Some((point, next)) = survey.won {
+            return self.add_move(alloc, frame.spot.turn, point, next);
+        }
+        if frame.going.must.is_empty() {
+            return self.add_all(alloc, &frame.spot, frame.going.answers.as_slice());
+        }
+        Ok(None)
+    }
+
+    /// Looks at the moves of a frame.
+    fn look(&mut self, alloc: Global, frame: &mut Frame) -> Result<Looked, Memory>
+        ensures { self.new.known.limits ≡ self.old.known.limits }
+    {
+        let survey = self.survey(alloc, frame)?;
+        if let Some(number) = self.decided(alloc, frame, &survey)? {
+            return Ok(Looked::Decided(number));
+        }
+        let Some(best) = survey.best else {
+            return Ok(Looked::Ended);
+        };
+        let numbers = survey.numbers();
+        frame.going.numbers = numbers;
+        if !frame.going.must.has(best.point) {
+            return Ok(Looked::Again);
+        }
+        if frame.is_reached(numbers) {
+            return Ok(Looked::Ended);
+        }
+        let below = survey.below(&best, frame.limits);
+        Ok(Looked::Going(frame.spot.after(best.point), below))
+    }
+
+    /// Looks at the last frame, and goes down or up.
+    fn step(&mut self, alloc: Global, frames: &mut Vec<Frame>) -> Result<(), Memory>
+        ensures { self.new.known.limits ≡ self.old.known.limits }
+    {
+        let Some(mut frame) = frames.pop() else {
+            return Ok(());
+        };
+        match self.look(alloc, &mut frame)? {
+            Looked::Decided(number) => self.known.put(frame.spot, Entry::Decided(number)),
+            Looked::Ended => {
+                let Frame {
+                    spot,
+                    going,
+                    order: _order,
+                    total: _total,
+                    limits: _limits,
+                } = frame;
+                self.known.put(spot, Entry::Undecided(going))
+            }
+            Looked::Going(spot, limits) => {
+                frames.push(frame)?;
+                self.enter(alloc, &spot, limits, frames)
+            }
+            Looked::Again => {
+                frames.push(frame)?;
+                Ok(())
+            }
+        }
+    }
+
+    /// Searches from the game's own position until it is decided, or as much is used as may be.
+    fn descend(&mut self, alloc: Global) -> Result<Option<u32>, Memory>
+        ensures { self.new.known.limits ≡ self.old.known.limits }
+    {
+        let start = self.arena.start;
+        let whole = Numbers {
+            mover: INFINITE,
+            waiter: INFINITE,
+        };
+        let mut frames = Vec::new(alloc);
+        self.enter(alloc, &start, whole, &mut frames)?;
+        for _step in 0..VISITS * u64::from(self.known.limits().positions) {
+            if frames.is_empty() || self.is_spent() {
+                break;
+            }
+            self.step(alloc, &mut frames)?;
+        }
+        match self.known.glimpse(&start) {
+            Glimpse::Decided(number) => Ok(Some(number)),
+            _ => Ok(None),
+        }
+    }
+
+    /// Tests whether nothing more may be kept, or no position expanded.
+    fn is_spent(&self) -> bool {
+        self.known.is_full() || self.known.expanded() >= self.known.limits().positions
+    }
+}
+
+/// Searches from the game's own position.
+///
+/// It is a search by proof numbers to the depth (df-pn: A. Nagai, Df-pn Algorithm for Searching
+/// AND/OR Trees and Its Applications, 2002) over a table of exact positions, of which each that is
+/// decided leaves a pattern: what its winner needs. A position is decided where a pattern fits.
+///
+/// # Errors
+///
+/// `Memory` if an allocation fails.
+pub fn search(alloc: Global, g: &Game, limits: Limits) -> Result<Found, Memory>
+    ensures { IfOk result (λ found. found.known.limits ≡ limits) }
+{
+    let arena = Arena::of_game(alloc, g)?;
+    let live = arena.live(alloc, &arena.start)?;
+    let total = total_weight(live.as_slice(), arena.longest);
+    let mut finder = Finder {
+        arena,
+        known: Known::new(alloc, limits)?,
+        trials: Trials::new(alloc)?,
+        averages: Averages::new(alloc)?,
+        total,
+    };
+    let root = finder.descend(alloc)?;
+    let Finder {
+        arena,
+        known,
+        trials: _trials,
+        averages: _averages,
+        total: _total,
+    } = finder;
+    Ok(Found { arena, known, root })
+}

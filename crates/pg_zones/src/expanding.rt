@@ -1,0 +1,249 @@
+//! Expands positions: what is known before their moves are searched.
+ghost use Rattle.std.specs.Prelude.{◌≡◌};
+
+use crate::combining::{all_pattern, move_pattern};
+use crate::finder::{Finder, THREAT_STEPS, by_threat};
+use crate::known::{Known, Undecided};
+use crate::numbers::{Numbers, first_numbers, quarters};
+use pg_base::{Memory, Side};
+use pg_patterns::{Arena, Image, Spot, heaviest_first, total_weight, weigh};
+use std::alloc::Global;
+
+/// The most patterns that are looked up after a pass.
+const MOST_FOUND: usize = 24;
+
+/// The number of Breaker's moves that are tried after a pass of Maker.
+const MOST_TRIED: usize = 3;
+
+/// The most taken points with which the symmetries of a position serve.
+const FEW_TAKEN: u32 = 4;
+
+/// The outcome of expanding a position.
+#[derive(Debug, Drop)]
+pub(crate) enum Expanded {
+    /// The pattern of this number decides it.
+    Decided(u32),
+    /// It isn't decided.
+    Undecided(Undecided),
+}
+
+impl Undecided {
+    /// Learns that a pattern of the waiter, who is to move in it, answers all moves outside its
+    /// zone.
+    fn learn(&mut self, arena: &Arena, known: &Known, image: Image) -> Result<(), Memory> {
+        if let Some((_held, zone)) = known.parts(arena, image) {
+            if !self.must.is_subset(zone) {
+                self.answers.push(image)?;
+                self.must = self.must.common(zone);
+            }
+        }
+        Ok(())
+    }
+
+    /// Learns the pattern and, if few points are taken, its images under the maps that keep the
+    /// position.
+    pub(crate) fn learn_all(
+        &mut self,
+        alloc: Global,
+        arena: &Arena,
+        known: &Known,
+        spot: &Spot,
+        pattern: u32,
+    ) -> Result<(), Memory> {
+        self.learn(arena, known, Image { pattern, map: 0 })?;
+        if spot.taken().len() > FEW_TAKEN {
+            return Ok(());
+        }
+        let maps = arena.maps.keeping(alloc, spot)?;
+        for map in &maps {
+            self.learn(arena, known, Image { pattern, map: *map })?;
+        }
+        Ok(())
+    }
+}
+
+/// Returns the position after a pass.
+fn passed(spot: &Spot) -> Spot {
+    Spot {
+        x: spot.x,
+        y: spot.y,
+        turn: spot.turn.other(),
+    }
+}
+
+impl Finder {
+    /// Learns from the known patterns that the waiter has after a pass of the mover.
+    fn learn_known(&self, alloc: Global, spot: &Spot, going: &mut Undecided) -> Result<(), Memory> {
+        let waiter = spot.turn.other();
+        let found = self.known.find(alloc, waiter, true, spot, MOST_FOUND)?;
+        for pattern in &found {
+            going.learn_all(alloc, &self.arena, &self.known, spot, *pattern)?;
+        }
+        Ok(())
+    }
+
+    /// Learns from a threat line that Maker has after a pass of Breaker.
+    fn learn_threat(
+        &mut self,
+        alloc: Global,
+        spot: &Spot,
+        going: &mut Undecided,
+    ) -> Result<(), Memory>
+        ensures { self.new.known.limits ≡ self.old.known.limits }
+    {
+        let passed = passed(spot);
+        let live = self.arena.live(alloc, spot)?;
+        let found = by_threat(
+            alloc,
+            &self.arena,
+            &passed,
+            live.as_slice(),
+            2 * THREAT_STEPS,
+        )?;
+        let Some(pattern) = found else {
+            return Ok(());
+        };
+        if let Some(number) = self.known.add(alloc, pattern)? {
+            going.learn_all(alloc, &self.arena, &self.known, spot, number)?;
+        }
+        Ok(())
+    }
+
+    /// Keeps the pattern of a move after which the pattern `next` stands, and returns its number.
+    pub(crate) fn add_move(
+        &mut self,
+        alloc: Global,
+        claimer: Side,
+        point: u8,
+        next: u32,
+    ) -> Result<Option<u32>, Memory>
+        ensures { self.new.known.limits ≡ self.old.known.limits }
+    {
+        let next = Image {
+            pattern: next,
+            map: 0,
+        };
+        match move_pattern(&self.arena, &self.known, claimer, point, next) {
+            Some(pattern) => self.known.add(alloc, pattern),
+            None => Ok(None),
+        }
+    }
+
+    /// Learns from Breaker's move to the point, if Breaker wins by it after a pass of Maker.
+    fn learn_move(
+        &mut self,
+        alloc: Global,
+        spot: &Spot,
+        point: u8,
+        going: &mut Undecided,
+    ) -> Result<(), Memory>
+        ensures { self.new.known.limits ≡ self.old.known.limits }
+    {
+        let Some(next) = self.decide(alloc, &passed(spot).after(point))? else {
+            return Ok(());
+        };
+        if self.known.claimer(next) != Some(Side::Y) {
+            return Ok(());
+        }
+        if let Some(number) = self.add_move(alloc, Side::Y, point, next)? {
+            going.learn_all(alloc, &self.arena, &self.known, spot, number)?;
+        }
+        Ok(())
+    }
+
+    /// Learns from Breaker's heaviest moves after a pass of Maker.
+    fn learn_moves(
+        &mut self,
+        alloc: Global,
+        spot: &Spot,
+        going: &mut Undecided,
+    ) -> Result<(), Memory>
+        ensures { self.new.known.limits ≡ self.old.known.limits }
+    {
+        let live = self.arena.live(alloc, spot)?;
+        let weights = weigh(live.as_slice(), self.arena.longest);
+        let order = heaviest_first(alloc, &weights, self.arena.free(spot))?;
+        for i in 0..MOST_TRIED {
+            let Some(weighed) = order.get(i).copied() else {
+                return Ok(());
+            };
+            if !going.must.is_empty() {
+                self.learn_move(alloc, spot, weighed.point, going)?;
+            }
+        }
+        Ok(())
+    }
+
+    /// Learns from what the waiter has after a pass of the mover.
+    fn learn_pass(
+        &mut self,
+        alloc: Global,
+        spot: &Spot,
+        going: &mut Undecided,
+    ) -> Result<(), Memory>
+        ensures { self.new.known.limits ≡ self.old.known.limits }
+    {
+        self.learn_known(alloc, spot, going)?;
+        if going.must.is_empty() {
+            return Ok(());
+        }
+        match spot.turn {
+            Side::X => self.learn_moves(alloc, spot, going),
+            Side::Y => self.learn_threat(alloc, spot, going),
+        }
+    }
+
+    /// Keeps the pattern of the waiter who answers all moves, and returns its number.
+    pub(crate) fn add_all(
+        &mut self,
+        alloc: Global,
+        spot: &Spot,
+        answers: &[Image],
+    ) -> Result<Option<u32>, Memory>
+        ensures { self.new.known.limits ≡ self.old.known.limits }
+    {
+        match all_pattern(alloc, &self.arena, &self.known, spot, answers)? {
+            Some(pattern) => self.known.add(alloc, pattern),
+            None => Ok(None),
+        }
+    }
+
+    /// Returns the first numbers of the position, at which `moves` moves must be searched.
+    fn numbers_at(&self, alloc: Global, spot: &Spot, moves: u32) -> Result<Numbers, Memory> {
+        let live = self.arena.live(alloc, spot)?;
+        let total = total_weight(live.as_slice(), self.arena.longest);
+        Ok(first_numbers(total, self.total, spot.turn, quarters(moves)))
+    }
+
+    /// Decides the position, or returns which moves must be searched; None if neither may be done
+    /// within the limits.
+    pub(crate) fn expand(&mut self, alloc: Global, spot: &Spot) -> Result<Option<Expanded>, Memory>
+        ensures { self.new.known.limits ≡ self.old.known.limits }
+    {
+        if let Some(number) = self.decide(alloc, spot)? {
+            return Ok(Some(Expanded::Decided(number)));
+        }
+        if !self.known.may_expand() {
+            return Ok(None);
+        }
+        let mut going = Undecided {
+            numbers: Numbers {
+                mover: 0,
+                waiter: 0,
+            },
+            must: self.arena.free(spot),
+            answers: Vec::new(alloc),
+        };
+        self.learn_pass(alloc, spot, &mut going)?;
+        if going.must.is_empty() {
+            return match self.add_all(alloc, spot, going.answers.as_slice())? {
+                Some(number) => Ok(Some(Expanded::Decided(number))),
+                None => Ok(None),
+            };
+        }
+        let moves = going.must.len();
+        self.averages.count(spot, moves);
+        going.numbers = self.numbers_at(alloc, spot, moves)?;
+        Ok(Some(Expanded::Undecided(going)))
+    }
+}

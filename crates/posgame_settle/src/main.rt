@@ -1,0 +1,72 @@
+//! The program: it settles the game that its arguments name, and exits with a status.
+#![tactic(auto)]
+
+mod complaint;
+mod usage;
+
+use pg_finder::ProofNumbers;
+use pg_host::{HostConsole, HostFiles, guard_streams};
+use pg_messages::{DONE, NO_MEANING, NO_MEMORY, NO_WORDS};
+use pg_settle::{Order, budget_for, settle};
+use std::env;
+use std::io::ErrorKind;
+use std::process::ExitCode;
+use usage::Asked;
+
+/// Returns the words of the command line after the program's name, or the status without them.
+fn words_given(rt: &HostRuntime) -> Result<Vec<String>, u8> {
+    let arguments = env::args(rt).map_err(|error| {
+        if error.kind() == ErrorKind::OutOfMemory {
+            NO_MEMORY
+        } else {
+            NO_WORDS
+        }
+    })?;
+    let mut words = Vec::new(rt.alloc());
+    for word in arguments.skip(1) {
+        if words.push(word).is_err() {
+            return Err(NO_MEMORY);
+        }
+    }
+    Ok(words)
+}
+
+/// Settles the game, and returns the status.
+fn run(rt: &HostRuntime, asked: &Asked<'_>) -> u8 {
+    let Some(budget) = budget_for(asked.positions, asked.entries, asked.nodes) else {
+        return NO_MEANING;
+    };
+    let order = Order {
+        game: asked.game,
+        certificate: asked.certificate,
+        budget,
+        images: asked.images,
+    };
+    let mut files = HostFiles::new(rt);
+    let mut console = HostConsole::new(rt);
+    settle(
+        rt.alloc(),
+        order,
+        &mut ProofNumbers,
+        &mut files,
+        &mut console,
+    )
+}
+
+fn main(rt: HostRuntime) -> ExitCode {
+    guard_streams(&rt);
+    let words = match words_given(&rt) {
+        Ok(words) => words,
+        Err(status) => return ExitCode::from(status),
+    };
+    let asked = match usage::read_words(rt.alloc(), &words) {
+        Ok(asked) => asked,
+        Err(error) => {
+            let _ = error.print(&rt);
+            return ExitCode::from(if error.use_stderr() { NO_MEANING } else { DONE });
+        }
+    };
+    let status = run(&rt, &asked);
+    complaint::say(&rt, status, &asked);
+    ExitCode::from(status)
+}

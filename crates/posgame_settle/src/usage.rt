@@ -1,0 +1,99 @@
+//! The command line of the program, as `clap` reads it.
+use clap::builder::ValueParser;
+use clap::{Arg, ArgAction, Command, Error};
+use pg_cert::MAX_NODES;
+use pg_settle::{MAX_ENTRIES, MAX_EXPANDED, MIN_BUDGET};
+use std::alloc::Global;
+
+/// The version that `--version` prints.
+pub(crate) const VERSION: &str = "1.0.0";
+
+/// The name that the program has in its messages.
+pub(crate) const NAME: &str = "posgame-settle";
+
+/// What is asked for.
+#[derive(Clone, Copy, Debug)]
+pub(crate) struct Asked<'a> {
+    /// The name of the game's file.
+    pub(crate) game: &'a str,
+    /// The name under which the certificate is to be stored.
+    pub(crate) certificate: &'a str,
+    /// How many positions may be expanded.
+    pub(crate) positions: Option<u32>,
+    /// How many positions the table may have.
+    pub(crate) entries: Option<u32>,
+    /// How many nodes the certificate may have.
+    pub(crate) nodes: Option<u32>,
+    /// Whether the certificate is to be folded.
+    pub(crate) images: bool,
+}
+
+/// Returns an option that takes a number from 1 to `most`.
+fn number<'a>(alloc: Global, name: &'a str, most: u32, help: &'a str) -> Arg<'a> {
+    let range = ValueParser::unsigned(u64::from(MIN_BUDGET), u64::from(most));
+    Arg::new(alloc, name)
+        .long(name)
+        .value_name("N")
+        .value_parser(range)
+        .help(help)
+}
+
+/// Adds the options that bound the search.
+fn with_budget<'a>(alloc: Global, command: Command<'a>) -> Result<Command<'a>, Error> {
+    let command = command
+        .arg(number(
+            alloc,
+            "positions",
+            MAX_EXPANDED,
+            "How many positions may be expanded",
+        ))?
+        .arg(number(
+            alloc,
+            "entries",
+            MAX_ENTRIES,
+            "How many positions the table may have",
+        ))?
+        .arg(number(
+            alloc,
+            "nodes",
+            MAX_NODES,
+            "How many nodes the certificate may have",
+        ))?;
+    Ok(command)
+}
+
+/// Returns the command with its two positional arguments and its options.
+fn command<'a>(alloc: Global) -> Result<Command<'a>, Error> {
+    let game = Arg::new(alloc, "GAME")
+        .required(true)
+        .help("The file of a game");
+    let certificate = Arg::new(alloc, "CERT")
+        .required(true)
+        .help("The file that the certificate is written to");
+    let images = Arg::new(alloc, "images")
+        .long("images")
+        .action(ArgAction::SetTrue)
+        .help("Write nodes that are turned or reflected as images of others");
+    let command = Command::new(alloc, NAME)
+        .no_binary_name(true)
+        .version(VERSION)
+        .about("Settles a positional game by a certificate that the proved checker accepts")
+        .arg(game)?
+        .arg(certificate)?;
+    let command = with_budget(alloc, command)?.arg(images)?;
+    Ok(command)
+}
+
+/// Returns what the words ask for; or what `clap` has to say of them: the help or the version that
+/// they ask for, or what is wrong with them.
+pub(crate) fn read_words<'a>(alloc: Global, words: &'a [String]) -> Result<Asked<'a>, Error> {
+    let found = command(alloc)?.try_get_matches_from(words)?;
+    Ok(Asked {
+        game: found.get_str("GAME").unwrap_or(""),
+        certificate: found.get_str("CERT").unwrap_or(""),
+        positions: found.get_one::<u32>("positions"),
+        entries: found.get_one::<u32>("entries"),
+        nodes: found.get_one::<u32>("nodes"),
+        images: found.get_flag("images"),
+    })
+}
