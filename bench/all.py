@@ -4,15 +4,14 @@ seconds and memory, with the limits.
 
     bench/all.py [--only WORD].. [--long] [--out FILE]
 
-The programs are those that `rt ci` or `rt run` left in crates/posgame/out, crates/posgame_draw/out
-and crates/bench_parts/out. A bench whose program is missing, that fails or takes too long is a line
-of its own. It takes half an hour, on a quiet machine; `--long` also gives posgame 20,000
-mutated files and arguments and kills it 200 times. Unproved.
+The programs are those that `rt ci` or `rt run` left in crates/NAME/out, for posgame, posgame_draw,
+posgame_settle and bench_parts. A bench whose program is missing, that fails or takes too long is a
+line of its own. It takes an hour, on a quiet machine; `--long` also gives posgame 20,000 mutated
+files and arguments and kills it 200 times. Unproved.
 """
 from __future__ import annotations
 
 import datetime
-import itertools
 import os
 import pathlib
 import platform
@@ -33,13 +32,16 @@ BENCHES = {
     "Large certificates checked": "games.py certificates",
     "Drawn certificates checked": "games.py drawn",
     "Large game files": "games.py files",
+    "Boards settled": "settling.py",
+    "Random games settled": "settling.py --random 100",
     "Plays with their undo on a board": "parts.py board",
     "Searches for threat lines": "parts.py threat",
     "Searches for private pairs": "parts.py match",
     "Pictures of examples, and the largest ones": "pictures.py",
     "Certificates with images": "images.py",
     "The lessons of docs/TUTORIAL.md":
-        f"tutorial.py {kit.built('posgame')} --draw {kit.built('posgame_draw')}",
+        f"tutorial.py {kit.built('posgame')} --draw {kit.built('posgame_draw')} "
+        f"--settle {kit.built('posgame_settle')}",
     "Files, names and consoles of the system that fail, and kills": "real_files.py",
     "Mutated files, words and dialogues": "fuzz.py --runs 20000",
     "Each allocation of eighteen runs refused in turn": "memory.py",
@@ -54,9 +56,9 @@ LIMIT = 3600
 def laid_out(lines: list[str]) -> list[str]:
     """The lines as Markdown: rows of tables as they are, others as a paragraph each."""
     text: list[str] = []
-    for before, line in itertools.pairwise(["", *filter(None, lines)]):
+    for line in filter(None, lines):
         is_row = line.startswith("|")
-        text += [] if is_row and before.startswith("|") else [""]
+        text += [] if is_row and "".join(text[-1:]).startswith("|") else [""]
         text += [line] if is_row else textwrap.wrap(line, 100, break_on_hyphens=False)
     return text
 

@@ -21,13 +21,13 @@ from typing import Iterable, Iterator, NamedTuple
 
 import kit
 
-# What a result is called in the table, and the usual names of animals.
-RESULTS = {
-    "result maker": "Maker", "result breaker": "Breaker", "result draw": "draw",
-    "result x": "first", "result y": "second", "class first-mover": "who begins",
-    "result avoider": "Avoider", "result enforcer": "Enforcer", "class short": "Short",
-    "class cut": "Cut", "class maker": "Maker", "class breaker": "Breaker",
+# What the last word of a result or a class is called in the table, and the usual names of animals.
+WINNERS = {
+    "maker": "Maker", "breaker": "Breaker", "draw": "draw", "x": "first", "y": "second",
+    "avoider": "Avoider", "enforcer": "Enforcer", "short": "Short", "cut": "Cut",
+    "first-mover": "who begins",
 }
+ANSWER = rf"unknown after (\d+) positions|(?:result|class) ({'|'.join(WINNERS)})"
 NAMES = {
     "1": "one cell", "11": "domino", "111": "tic", "11/10": "el", "1111": "skinny",
     "11/11": "fatty", "111/010": "knobby", "111/100": "elly", "110/011": "tippy", "11111": "I",
@@ -52,30 +52,26 @@ class Solved(NamedTuple):
 
 def solved(text: str, given: argparse.Namespace) -> Solved:
     """Solves a board and checks what was stored."""
-    has_lines = re.search("^kind (?!switching)", text, re.MULTILINE)
-    flags = ["--positions", given.positions] if has_lines else []
+    flags = ["--positions", given.positions] if re.search("^kind (?!switching)", text, re.M) else []
     done, stored, is_accepted = kit.solved(given.program, text, *flags, most=given.seconds)
-    count = re.fullmatch(r"unknown after (\d+) positions", done.said)
-    if count:
-        return Solved("unknown", f"{int(count[1]):,}", done.processor)
-    if done.said not in RESULTS:
+    found = re.fullmatch(ANSWER, done.said)
+    if not found:
         return Solved("stopped" if done.status < 0 else f"status {done.status}", "", done.processor)
+    if found[1]:
+        return Solved("unknown", f"{int(found[1]):,}", done.processor)
     counts = map(int, re.findall(r"^nodes (\d+)$", stored, re.MULTILINE))
-    number, winner, wrong = sum(counts) or stored.count("\nclaim "), RESULTS[done.said], []
+    number, winner, wrong = sum(counts) or stored.count("\nclaim "), WINNERS[found[2]], []
     if not is_accepted:
         winner, wrong = f"{winner}, not accepted", [f"{done.said} is not accepted: {text!r:.300}"]
     return Solved(winner, f"{number:,}", done.processor, True, wrong)
 
 
 def animals(most: int) -> Iterator[str]:
-    """The words of all animals of up to so many cells, that with a name if an image has one."""
+    """The words of all animals of up to so many cells, of each that of the image with a name."""
     of_size: set[kit.Cells] = {((0, 0),)}
     for _ in range(most):
-        words = []
-        for cells in of_size:
-            images = sorted(map(kit.word_of, kit.turned(cells)))
-            words.append(next((word for word in images if word in NAMES), images[-1]))
-        yield from sorted(words, key=lambda word: NAMES.get(word, word))
+        images = (set(map(kit.word_of, kit.turned(cells))) for cells in of_size)
+        yield from sorted(((it & NAMES.keys()).pop() for it in images), key=NAMES.__getitem__)
         of_size = {min(kit.turned([*cells, cell])) for cells in of_size
                    for cell in kit.beside(cells)}
 
@@ -116,14 +112,13 @@ def parts() -> Iterator[Part]:
     for kind, goal in ANIMALS.items():
         said = f"All animals of up to five cells, in each position, turned and reflected: {goal}"
         grids = {f"{it} by {it}": f"grid {it} {it}" for it in (3, 4, 5, 6)}
-        rows = [([f"{NAMES.get(word, '')} `{word}`"],
+        rows = [([f"{NAMES[word]} `{word}`"],
                  [kit.game(kind, grid, f"shape {word}") for grid in grids.values()])
                 for word in animals(5)]
         yield Part(f"Animals, {kit.KINDS[kind]}", said, ["animal"], list(grids), rows)
-    bridges = {rows: kit.bridge(rows) for rows in range(1, 23)}
     yield Part("Bridg-it", "Whoever begins wins, by two trees and two cuts.", ["rows", "edges"],
                ["class"], [([str(rows), str(len(graph[1]))], [kit.switching(graph)])
-                           for rows, graph in bridges.items()])
+                           for rows, graph in enumerate(map(kit.bridge, range(1, 23)), 1)])
     yield boxes("maker-breaker", "x", "Maker", "Breaker")
     for turn, first in ("x", "Avoider"), ("y", "Enforcer"):
         yield boxes("avoider-enforcer", turn, first, "Enforcer", f", {first} begins")
@@ -135,33 +130,20 @@ def parts() -> Iterator[Part]:
                [([name, str(len(graph[1]))], [kit.span(graph)]) for name, graph in graphs.items()])
 
 
-def summary(boards: list[Solved]) -> str:
-    """How many boards are settled, and in what time."""
-    settled, seconds = sum(it.is_settled for it in boards), sum(it.seconds for it in boards)
-    return f"{settled} of {len(boards)} settled, in {seconds:.0f} s of a processor."
-
-
-def head(boards: list[Solved], given: argparse.Namespace) -> str:
-    """The text that begins the page, with its first paragraph anew."""
-    title, _, *others = kit.prose("BOARDS.md").split("\n\n")
-    said = (f"{len(boards)} boards, solved by `bench/boards.py` on {datetime.date.today()} with at "
-            f"most\n{given.positions:,} positions a question and {given.seconds} s a run: "
-            f"{sum(it.is_settled for it in boards)} are settled.")
-    return "\n\n".join([title, said, *others])
-
-
 def section(part: Part, pool: concurrent.futures.Executor,
             given: argparse.Namespace) -> tuple[list[str], list[Solved]]:
     """Solves the boards of a part; returns its lines of the page, and what came of each board."""
     texts = [text for _, of_row in part.rows for text in of_row]
     boards = list(pool.map(solved, texts, itertools.repeat(given)))
-    print(f"{part.title}: {summary(boards)}", flush=True)
+    settled, seconds = sum(it.is_settled for it in boards), sum(it.seconds for it in boards)
+    said = f"{settled} of {len(boards)} settled, in {seconds:.0f} s of a processor."
+    print(f"{part.title}: {said}", flush=True)
     number, left = "claims" if part.title.startswith("Connectivity") else "nodes", iter(boards)
     lines = [[*names, *(cell for it in itertools.islice(left, len(of_row))
                         for cell in (it.winner, it.number, f"{it.seconds:.2f}"))]
              for names, of_row in part.rows]
     columns = part.first + [cell for it in part.heads for cell in (it, number, "s")]
-    prose = textwrap.wrap(f"{part.said} {summary(boards)}", 100)
+    prose = textwrap.wrap(f"{part.said} {said}", 100)
     return [f"## {part.title}", "", *prose, "", *kit.table(columns, lines), ""], boards
 
 
@@ -174,7 +156,12 @@ def main() -> int:
         sections = [section(it, pool, given) for it in parts() if given.only in it.title]
     boards = [it for _, of_part in sections for it in of_part]
     lines = [line for of_part, _ in sections for line in of_part]
-    kit.write_page([head(boards, given), *lines], given, "BOARDS.md")
+    # The first paragraph of the page is written anew.
+    title, _, *others = kit.prose("BOARDS.md").split("\n\n")
+    said = (f"{len(boards)} boards, solved by `bench/boards.py` on {datetime.date.today()} with at "
+            f"most\n{given.positions:,} positions a question and {given.seconds} s a run: "
+            f"{sum(it.is_settled for it in boards)} are settled.")
+    kit.write_page(["\n\n".join([title, said, *others]), *lines], given, "BOARDS.md")
     return kit.end(fault for it in boards for fault in it.wrong)
 
 

@@ -7,67 +7,55 @@ No clause can show that a review checks what it relies on, since solving promise
 Callgrind counts the calls, by the name of the checker's function, in runs of `posgame review`. By
 `posgame solve` the script finds how many there must be: it solves the position before the first
 move, and each later one unless the last certificate has a node with that position in each of its
-claims.
-
-Its examples are tried by `bench/test_examples.py`. Unproved.
+claims. Its examples are tried by `bench/test_examples.py`. Unproved.
 """
 from __future__ import annotations
 
 import re
-import sys
 
+import drawn
 import kit
+from memory import TEXTS
 
 # The function that begins each check of a whole certificate.
 CHECKER = "pg_check::checking::Checking::begin"
-TWO_LINES = kit.game("maker-breaker", "points 3", "line 0 1", "line 0 2")
-DRAWN = kit.game("avoider-enforcer", "points 3", "line 0 1", "line 0 2", "line 1 2")
-TRIANGLE = kit.switching((3, [(0, 1), (0, 2), (2, 1)]), turn="y")
 NOUGHTS = kit.game("maker-maker", "points 9", *kit.line_rows(kit.in_row(3, 3, 3)))
 # Each row: what the game is, its file, and the moves.
 ROWS = [
-    ("two lines", TWO_LINES, [1, 2, 0]),
-    ("two lines, no move", TWO_LINES, []),
-    ("Avoider and Enforcer", DRAWN, [0, 1, 2]),
-    ("a triangle", TRIANGLE, [1, 2, 0]),
+    ("two lines", TEXTS["TWO_LINES"], [1, 2, 0]),
+    ("two lines, no move", TEXTS["TWO_LINES"], []),
+    ("Avoider and Enforcer", TEXTS["AVOIDED"], [0, 1, 2]),
+    ("a triangle", TEXTS["TRIANGLE"], [1, 2, 0]),
     ("noughts and crosses, without a slip", NOUGHTS, [4, 0, 8, 1, 2, 6]),
     ("noughts and crosses, with a slip of each side", NOUGHTS, [0, 1, 4, 8, 2, 6, 3]),
 ]
-PLAYS = kit.LineGame("maker-breaker", 9, [])
 
 
-def nodes_of(certificate: str) -> list[set[kit.Position]]:
-    """Returns the positions of the nodes, claim by claim.
+def is_known(certificate: str, place: drawn.Place) -> bool:
+    """Tells whether each claim of a certificate has a node at the place.
 
-    >>> nodes_of("posgame-cert 1\\nclaim y x win\\nnodes 1\\n0 1||y|over\\n")
-    [{(frozenset({0, 1}), frozenset(), 'y', 1)}]
+    >>> known = "posgame-cert 1\\nclaim y x win\\nnodes 1\\n0 1||y|over\\n"
+    >>> [is_known(known, drawn.Place(frozenset([1, 0]), frozenset(), turn)) for turn in "xy"]
+    [False, True]
     """
-    claims: list[set[kit.Position]] = []
-    for line in certificate.splitlines():
-        if line.startswith("nodes "):
-            claims.append(set())
-        elif "|" in line:
-            x, y, turn, _ = line.split("|", 3)
-            x_points, y_points = (frozenset(map(int, it.split())) for it in (x, y))
-            claims[-1].add((x_points, y_points, turn, 1))
-    return claims
+    begin = "\n" + drawn.row(place, "").rstrip("\n")
+    return all(begin in claim for claim in certificate.split("\nclaim ")[1:])
 
 
-def solved(program: str, game: str, position: kit.Position) -> list[set[kit.Position]]:
-    """Solves a game without marks at a position, and returns the positions of the nodes."""
-    x, y, turn, _ = position
-    rows = [*game.splitlines()[:-1], *kit.mark_rows(x, y), f"turn {turn}", ""]
-    return nodes_of(kit.solved(program, "\n".join(rows))[1])
+def solved(program: str, game: str, place: drawn.Place) -> str:
+    """Solves a game without marks at a place, and returns the certificate."""
+    rows = [*game.splitlines()[:-1], *kit.mark_rows(place.x, place.y), f"turn {place.turn}", ""]
+    return kit.solved(program, "\n".join(rows))[1]
 
 
 def due(program: str, game: str, moves: list[int]) -> int:
     """Returns how many certificates a review of the moves relies on."""
-    position: kit.Position = frozenset(), frozenset(), game.split()[-1], 1
-    known, found = solved(program, game, position), 1
+    place = drawn.Place(frozenset(), frozenset(), game.split()[-1])
+    known, found = solved(program, game, place), 1
     for point in moves:
-        position = PLAYS.after(*position, point)
-        if not all(position in nodes for nodes in known):
-            known, found = solved(program, game, position), found + 1
+        place = place.after(point)
+        if not is_known(known, place):
+            known, found = solved(program, game, place), found + 1
     return found
 
 
@@ -77,11 +65,11 @@ def calls(counts: str) -> int:
     >>> calls(f"fn=(1) main\\n0 9\\ncfn=(2) {CHECKER}\\ncalls=3 0\\n0 9\\nfn=(2)\\n0 9\\n")
     3
     """
-    names = dict(re.findall(r"^c?fn=\((\d+)\) (.+)$", counts, re.M))
+    checkers = re.findall(rf"^c?fn=\((\d+)\) {CHECKER}", counts, re.M)
+    if not checkers:
+        raise SystemExit(f"the program has no function {CHECKER}, or didn't call it")
     called = re.findall(r"^cfn=\((\d+)\).*\ncalls=(\d+)", counts, re.M)
-    if not any(name.startswith(CHECKER) for name in names.values()):
-        sys.exit(f"the program has no function {CHECKER}, or didn't call it")
-    return sum(int(times) for number, times in called if names[number].startswith(CHECKER))
+    return sum(int(times) for number, times in called if number in checkers)
 
 
 def counted(program: str, game: str, moves: list[int]) -> tuple[int, str]:
@@ -100,11 +88,10 @@ def main() -> int:
     for name, game, moves in ROWS:
         wanted, (found, said) = due(program, game, moves), counted(program, game, moves)
         wrong = [f"{found} checked, and not {wanted}"] * (found != wanted)
-        if not said.endswith(f"reviewed {len(moves)}"):
-            wrong.append(f"not reviewed: {said}")
+        wrong += [f"not reviewed: {said}"] * (not said.endswith(f"reviewed {len(moves)}"))
         table.row(name, found, wrong=wrong)
     return table.end()
 
 
 if __name__ == "__main__":
-    sys.exit(main())
+    raise SystemExit(main())

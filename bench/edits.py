@@ -1,13 +1,13 @@
 #!/usr/bin/env python3
 """Tries the must-fail edits that the gate does not: bench/edits/NAME/*.edit, wrong bodies of crate
 NAME that the prover must refuse. To try all of them takes as long as all proofs together; the gate
-tries those of crates/NAME/must-fail.
+tries those of crates/NAME/must-fail. Unproved.
 
     bench/edits.py [NAME..]
 
-Works on a copy of the checkout's files, in which these edits are where `rt ci` looks for them. Each
-crate below those named is proved first, unless the toolchain has kept that. Prints what rt says of
-each edit that isn't as it must be, and its last lines; the status is 1 if there is one. Unproved.
+Works on a copy of the files that git doesn't ignore, with these edits where `rt ci` looks for them.
+Each crate below those named is proved first, unless the toolchain has kept that. Prints what rt
+says of each edit that isn't as it must be, and its last lines; the status is 1 if there is one.
 """
 from __future__ import annotations
 
@@ -16,23 +16,15 @@ import re
 import shutil
 
 import kit
+import width
 
 EDITS = kit.TOP / "bench" / "edits"
-
-
-def copy_tracked(copy: pathlib.Path) -> None:
-    """Copies the checkout's files that git knows."""
-    listed = kit.call("git", "ls-files", "-z", cwd=kit.TOP, check=True).stdout
-    for name in filter(lambda name: (kit.TOP / name).is_file(), listed.split("\0")):
-        (copy / name).parent.mkdir(parents=True, exist_ok=True)
-        shutil.copy2(kit.TOP / name, copy / name)
-    kit.call("git", "init", "-q", cwd=copy, check=True)
 
 
 def tried(copy: pathlib.Path, names: list[str]) -> int:
     """Tries the edits of these crates in the copy, and returns 1 if one isn't refused."""
     done = kit.call("sh", "-c", 'exec rt ci "$@" 2>&1', "rt", *names, cwd=copy, errors="replace")
-    lines = [line.strip() for line in re.split("[\r\n]", done.stdout) if line.strip()]
+    lines = [*filter(None, map(str.strip, done.stdout.splitlines()))]
     print(*lines[-3:], sep="\n")
     wrong = filter(re.compile("BAD EDIT|NOT TRIED|NOT REFUSED").search, lines)
     return kit.end(wrong) or int(done.returncode != 0)
@@ -44,12 +36,16 @@ def main() -> int:
     words.add_argument("names", metavar="NAME", nargs="*", choices=known, help="all if left out")
     names = words.parse_args().names or known
     with kit.files() as folder:
-        copy_tracked(folder / "posgame")
+        copy = folder / "posgame"
+        for file in width.tracked():
+            (copy / file).parent.mkdir(parents=True, exist_ok=True)
+            shutil.copy2(kit.TOP / file, copy / file)
+        kit.call("git", "init", "-q", cwd=copy, check=True)
         for name in names:
-            must_fail = folder / "posgame" / "crates" / name / "must-fail"
+            must_fail = copy / "crates" / name / "must-fail"
             shutil.rmtree(must_fail, ignore_errors=True)
             shutil.copytree(EDITS / name, must_fail)
-        return tried(folder / "posgame", names)
+        return tried(copy, names)
 
 
 if __name__ == "__main__":

@@ -1,39 +1,7 @@
 #!/usr/bin/env python3
-"""Finds what the test crates expect, without anything of the crates.
+"""Finds what the test crates expect, without anything of the crates. Unproved.
 
     bench/expected.py criteria | plain | families | counts | values | totals | reviews | names
-
-criteria: the numbers of claims, attacks and trees-and-cuts of test_criteria: at how many positions
-of small games a criterion holds, as docs/DEFINITIONS.md says it, and at how many the value by brute
-force reaches its goal. It stops if one holds and the goal isn't reached, and in a switching game if
-the side that wins has no trees or no cuts.
-
-plain: the numbers of test_plain. First those of src/threat_rows.rt: at how many positions of small
-games the shortest threat line of the side to move forces none, one, two or three replies, and at
-how many there is none. Then, for connectivity games on two to four vertices and games on vectors of
-three entries, how many games X wins whoever moves, Y does, and the side to move does, over all
-choices of points in order and all marks; and the same for five points without marks.
-
-families: a table of test_rows: whether disjoint pairs exist, found by trying all choices. A row is
-a position of Maker-Breaker: `maker-breaker POINTS x 1:LINES:X:Y:ANSWER`. Lines with a point of Y
-need no pair. Half of the rows have no pairs, and most of these pass both counts (enough free points
-for all, two for each line); half of the others block a matcher that keeps its first choices.
-
-counts: a table of test_rows: in how many ways a polyomino lies on a board. No shape is moved: on
-each board all connected sets of four or of five cells are counted for the least of the eight images
-of each. A row is WORD:COUNTS, with the counts on the boards 4 by 4, 4 by 5, 4 by 6, 5 by 4 and so
-on to 6 by 6 (width by height).
-
-values: the lines `value` and `pair` of test_stories; totals: how many have each value. There are
-300 games with a point a turn, the first 120 of them with two points for Y except in Maker-Maker,
-200 with two or three points for Y and without marks, and 200 pairs of positions, drawn from their
-numbers as seeds. Letters: m and b for Maker and Breaker, a and e for Avoider and Enforcer, x, y and
-d for Maker-Maker and its draw. A pair is m or b if the first position is no worse for the winner of
-the second, and else that winner, x or y.
-
-reviews: 200 rows of test_stories on noughts and crosses; names: what it says of them. In each kind
-with lines the board begins empty or with some marks, with either side to move; moves are taken back
-now and then. Values are found by trying all plays. Unproved.
 """
 from __future__ import annotations
 
@@ -41,7 +9,7 @@ import collections
 import functools
 import itertools
 import random
-from typing import Any, Callable, Iterable, Iterator, Optional, Sequence
+from typing import Any, Callable, Iterable, Optional, Sequence
 
 import kit
 from kit import Points
@@ -78,16 +46,14 @@ class Game(kit.LineGame):
         return total < base ** max(map(len, self.lines), default=0)
 
     def pairing(self, side: str, pairs: Any, x: Points, y: Points, turn: str, left: int) -> bool:
-        """Whether these pairs hold for the side."""
-        points, free = [v for pair in pairs for v in pair], self.free(x, y)
-        if len(set(points)) < len(points) or not set(points) <= set(free):
-            return False
+        """Whether these disjoint pairs hold for the side."""
+        points, free = {v for pair in pairs for v in pair}, set(self.free(x, y))
         is_avoider = self.kind == "avoider-enforcer"
-        harmless = y if side == "y" or is_avoider else x
-        if is_avoider and (self.bias > 1 or len(free) - len(points) != (turn == "x")):
+        if is_avoider and (self.bias > 1 or len(free - points) != (turn == "x")):
             return False
-        return all(line & harmless or any(set(pair) <= line for pair in pairs)
-                   for line in self.lines)
+        harmless = y if side == "y" or is_avoider else x
+        return points <= free and all(
+            line & harmless or any(set(pair) <= line for pair in pairs) for line in self.lines)
 
     def attacks(self, side: str, depth: int, x: Points, y: Points, turn: str, left: int) -> bool:
         """Whether the side to move fills a line by attacks with at most `depth` replies."""
@@ -119,19 +85,12 @@ potential_counts = functools.partial(counted, Game.potential, [()])
 pair_counts = functools.partial(counted, Game.pairing, PAIR_SETS)
 
 
-def threat_counts(kind: str) -> list[tuple[int, ...]]:
-    """Of each board how many positions are won at once, by attacks, and at all."""
-    at_once, attacks = (counted(Game.attacks, [(depth,)], kind, "") for depth in (0, 3))
-    return list(zip(at_once[::2], attacks[::2], attacks[1::2]))
-
-
 class GraphGame:
     """A switching game between the vertices 0 and 1; the number of edges is the extra edge."""
 
     def __init__(self, ends: list[kit.Edge]) -> None:
         self.ends, self.count = ends + [(0, 1)], len(ends)
-        self.x_wins = kit.set_game(self.count, lambda points: self.joins(
-            frozenset(v for v in range(self.count) if points >> v & 1), self.count))
+        self.x_wins = kit.set_game(self.count, functools.partial(self.joins, edge=self.count))
 
     @functools.lru_cache(None)
     def joins(self, edges: Points, edge: int) -> bool:
@@ -159,14 +118,17 @@ class GraphGame:
             for turn in "xy":
                 of_x, of_y = (sum(test(x, y, a, b) for a, b in pairs + more * (turn == side))
                               for side, test in (("x", self.trees), ("y", self.cuts)))
-                wins = self.x_wins(kit.bits(x), kit.bits(y), turn == "x")
+                wins = self.x_wins(x, y, turn == "x")
                 assert (of_x > 0, of_y > 0) == (wins, not wins), (self.ends, x, y, turn)
                 won, trees, cuts = won + wins, trees + of_x, cuts + of_y
         return won, trees, cuts
 
 
 def criteria() -> None:
-    """Prints the numbers of test_criteria."""
+    """Prints the numbers of claims, attacks and trees-and-cuts of test_criteria: at how many
+    positions of small games a criterion holds, as docs/DEFINITIONS.md says it, and at how many the
+    value by brute force reaches its goal. Stops if one holds and the goal isn't reached, and in a
+    switching game if the side that wins has no trees or no cuts."""
     breaker, race, avoider = kit.KINDS
     for bias in (1, 2, 3):
         print("Breaker's potential, bias", bias, potential_counts(breaker, "y", bias=bias))
@@ -176,8 +138,10 @@ def criteria() -> None:
     for side in "xy":
         print("potential in a race,", side, potential_counts(race, side, "draw"))
         print("pairs in a race,", side, pair_counts(race, side, "draw"))
+    # Of each board, how many positions are won at once, by attacks, and at all.
     for kind, name in ((breaker, "breaker"), (race, "race")):
-        print("threat lines,", name, threat_counts(kind))
+        at_once, attacks = (counted(Game.attacks, [(depth,)], kind, "") for depth in (0, 3))
+        print("threat lines,", name, [*zip(at_once[::2], attacks[::2], attacks[1::2])])
     for ends in GRAPHS:
         print("positions that X wins, trees, cuts on", ends, GraphGame(ends).counts())
 
@@ -197,28 +161,30 @@ def depths(kind: str, lines: list[tuple[int, ...]]) -> list[int]:
     return found
 
 
-def joins(vertices: int, ends: Sequence[kit.Edge], points: int) -> bool:
+def joins(vertices: int, ends: Sequence[kit.Edge], points: Points) -> bool:
     """Whether the edges of the set join every two vertices."""
-    edges = (edge for k, edge in enumerate(ends) if points >> k & 1)
-    return len(set(kit.tops(vertices, edges))) == 1
+    return len(set(kit.tops(vertices, map(ends.__getitem__, points)))) == 1
 
 
-def sums(target: int, vectors: Sequence[int], points: int) -> bool:
+def sums(target: int, vectors: Sequence[int], points: Points) -> bool:
     """Whether the target is a sum of some vectors of the set."""
     known = {0}
-    for k, vector in enumerate(vectors):
-        if points >> k & 1:
-            known |= {old ^ vector for old in known}
+    for v in points:
+        known |= {old ^ vectors[v] for old in known}
     return target in known
 
 
-def wins(count: int, tests: Iterable[Callable[[int], bool]], has_marks: bool) -> str:
-    """In how many games on so many points, in which X wants them to pass a test, at all marks or at
-    none, X wins whoever moves, Y does, the mover does, and the other does."""
+def wins(passes: Callable[..., bool], goals: Iterable[int], things: Iterable[Any], count: int,
+         has_marks: bool = True) -> str:
+    """In how many games on `count` of the things, in which X wants some of them to pass a test with
+    one of the goals, at all marks or at none, X wins whoever moves, Y does, the mover does, and the
+    other does."""
     found: collections.Counter[tuple[bool, ...]] = collections.Counter()
-    for x_wins in (kit.set_game(count, passes) for passes in tests):
-        found.update(tuple(x_wins(*map(kit.bits, marks), x_moves) for x_moves in (True, False))
-                     for marks in (kit.marked(count) if has_marks else [((), ())]))
+    chosen = itertools.combinations_with_replacement(things, count)
+    for goal, points in itertools.product(goals, chosen):
+        x_wins = kit.set_game(count, functools.partial(passes, goal, points))
+        found.update(tuple(x_wins(*marks, x_moves) for x_moves in (True, False))
+                     for marks in itertools.islice(kit.marked(count), None if has_marks else 1))
     assert not found[False, True]
     whose = (True, True), (False, False), (True, False), (False, True)
     return kit.field(found[it] for it in whose) + ","
@@ -226,19 +192,21 @@ def wins(count: int, tests: Iterable[Callable[[int], bool]], has_marks: bool) ->
 
 def connectivity(vertices: int, count: int, has_marks: bool = True) -> str:
     """The counts over all choices of edges."""
-    pairs = [(u, v) for u in range(vertices) for v in range(u, vertices)]
-    return wins(count, (functools.partial(joins, vertices, ends) for ends in
-                        itertools.combinations_with_replacement(pairs, count)), has_marks)
+    pairs = itertools.combinations_with_replacement(range(vertices), 2)
+    return wins(joins, [vertices], pairs, count, has_marks)
 
 
-def vectors(count: int, has_marks: bool = True) -> str:
-    """The counts over all lists and targets."""
-    return wins(count, (functools.partial(sums, target, chosen) for target in range(8) for chosen in
-                        itertools.combinations_with_replacement(range(8), count)), has_marks)
+# The counts over all lists of so many vectors, and all targets.
+vectors = functools.partial(wins, sums, range(8), range(8))
 
 
 def plain() -> None:
-    """Prints the numbers of test_plain."""
+    """Prints the numbers of test_plain. First those of src/threat_rows.rt: at how many positions of
+    small games the shortest threat line of the side to move forces none, one, two or three replies,
+    and at how many there is none. Then, for connectivity games on two to four vertices and games on
+    vectors of three entries, how many games X wins whoever moves, Y does, and the side to move
+    does, over all choices of points in order and all marks; and the same for five points without
+    marks."""
     for kind, name in (("maker-breaker", "maker and breaker"), ("maker-maker", "maker and maker")):
         rows = (kit.field(depths(kind, lines)) + " 0;" for lines in THREAT_BOARDS)
         print(f"{name}:", "".join(rows))
@@ -265,16 +233,6 @@ def blocks(lines: list[kit.Line], free: set[int]) -> bool:
     return False
 
 
-def family(draw: random.Random) -> tuple[int, list[kit.Line], set[int], set[int]]:
-    """Points, lines, X's points and Y's."""
-    points = draw.randint(4, 12)
-    lines = [sorted(draw.sample(range(points), draw.randint(2, min(points, 4))))
-             for _ in range(draw.randint(2, 7))]
-    own = set(draw.sample(range(points), 1)) if draw.random() < 0.25 else set()
-    taken = {v for v in range(points) if v not in own and draw.random() < 0.05}
-    return points, lines, taken, own
-
-
 def kind_of(points: int, lines: list[kit.Line], taken: set[int], own: set[int]) -> Optional[str]:
     """What a family shows, or None if it has less than two lines that need a pair."""
     wanted, free = [line for line in lines if not own & set(line)], set(range(points)) - taken - own
@@ -287,21 +245,32 @@ def kind_of(points: int, lines: list[kit.Line], taken: set[int], own: set[int]) 
 
 
 def families() -> None:
-    """Prints as many families of each kind as are due."""
+    """Prints a table of test_rows: whether disjoint pairs exist, found by trying all choices. A row
+    is a position of Maker-Breaker: `maker-breaker POINTS x 1:LINES:X:Y:ANSWER`. Lines with a point
+    of Y need no pair. Half of the rows have no pairs, and most of these pass both counts (enough
+    free points for all, two for each line); half of the others block a matcher that keeps its first
+    choices."""
     draw = random.Random(1935)
     due = {"plain": 13, "blocked": 13, "short": 22, "few": 4}
     while any(due.values()):
-        points, lines, *marks = family(draw)
-        kind = kind_of(points, lines, *marks)
+        points = draw.randint(4, 12)
+        lines = [sorted(draw.sample(range(points), draw.randint(2, min(points, 4))))
+                 for _ in range(draw.randint(2, 7))]
+        own = set(draw.sample(range(points), 1)) if draw.random() < 0.25 else set()
+        taken = {v for v in range(points) if v not in own and draw.random() < 0.05}
+        kind = kind_of(points, lines, taken, own)
         if kind and due[kind] and (len(lines) > 2 or draw.random() < 0.3):
             due[kind] -= 1
-            answer = "yes" if kind in ("plain", "blocked") else "no"
             row = kit.short_game("maker-breaker", points, lines).rstrip(":\n")
-            print(row, *(kit.field(sorted(it)) for it in marks), answer, sep=":")
+            marks = (kit.field(sorted(it)) for it in (taken, own))
+            print(row, *marks, "yes" if kind in ("plain", "blocked") else "no", sep=":")
 
 
 def counts() -> None:
-    """Prints how often each polyomino is among the connected sets of each board."""
+    """Prints a table of test_rows: in how many ways a polyomino lies on a board. No shape is moved:
+    on each board all connected sets of four or of five cells are counted for the least of the eight
+    images of each. A row is WORD:COUNTS, with the counts on the boards 4 by 4, 4 by 5, 4 by 6, 5 by
+    4 and so on to 6 by 6 (width by height)."""
     for size in (4, 5):
         boards = []
         for width, height in itertools.product(range(4, 7), repeat=2):
@@ -357,22 +326,15 @@ def drawn_marks(draws: kit.Draws, points: int, limit: int) -> Marks:
     return [{0: "x", 1: "y"}.get(draws.below(limit)) for _ in range(points)]
 
 
-def game(number: int, bias: int) -> tuple[kit.LineGame, kit.Position]:
-    """A game of three to six points with marks."""
+def game(number: int, kind: str, bias: int, least: int = 3, most: int = 6,
+         has_marks: bool = True) -> tuple[kit.LineGame, kit.Position]:
+    """A game of `least` to six points with at most `most` lines, drawn from its number."""
     draws = kit.Draws(number)
-    points, kind = draws.below(4) + 3, KINDS[number % 3]
-    lines, marks = drawn_lines(draws, points, 6), drawn_marks(draws, points, 10)
+    points = draws.below(7 - least) + least
+    lines = drawn_lines(draws, points, most)
+    marks = drawn_marks(draws, points, 10) if has_marks else []
     board = kit.LineGame(kind, points, lines, 1 if kind == "maker-maker" else bias)
     return board, position(board, marks, "xy"[draws.below(2)])
-
-
-def biased_game(number: int) -> tuple[kit.LineGame, kit.Position]:
-    """A game of four to six points without marks, with two or three points for Y."""
-    draws = kit.Draws(number)
-    points = draws.below(3) + 4
-    lines = drawn_lines(draws, points, 10)
-    board = kit.LineGame(KINDS[number % 2], points, lines, 2 + number // 2 % 2)
-    return board, position(board, [], "xy"[draws.below(2)])
 
 
 def drawn_pair(number: int) -> tuple[kit.LineGame, kit.Position, kit.Position]:
@@ -391,16 +353,18 @@ def drawn_pair(number: int) -> tuple[kit.LineGame, kit.Position, kit.Position]:
     return board, position(board, marks, turn), position(board, others, other_turn)
 
 
-GAMES = [game(number, bias) for bias, count in ((1, 300), (2, 120)) for number in range(count)]
-GAMES += map(biased_game, range(200))
+GAMES = [game(number, KINDS[number % 3], bias) for bias, count in ((1, 300), (2, 120))
+         for number in range(count)]
+GAMES += [game(number, KINDS[number % 2], 2 + number // 2 % 2, 4, 10, False)
+          for number in range(200)]
 PAIRS = list(map(drawn_pair, range(200)))
 
 
 def pair(board: kit.LineGame, first: kit.Position, second: kit.Position) -> str:
     """The letter of a pair of positions."""
     value = letter(board, second)
-    winner, loser = {"m": (0, 1), "b": (1, 0)}[value]
-    is_no_worse = (first[winner] >= second[winner] and first[loser] <= second[loser]
+    winner = "mb".index(value)
+    is_no_worse = (first[winner] >= second[winner] and first[1 - winner] <= second[1 - winner]
                    and first[2] == second[2])
     assert not is_no_worse or letter(board, first) == value
     return value if is_no_worse else "xy"[winner]
@@ -440,16 +404,6 @@ CHANCE = random.Random(20261128)
 RECORDS = list(map(drawn_record, range(1, 201)))
 
 
-def losses(board: kit.LineGame, trail: list[kit.Position]) -> Iterator[str]:
-    """The lines on moves that lost value."""
-    for number, (p, q) in enumerate(zip(trail, trail[1:])):
-        before, now = board.value(*p), board.value(*q)
-        if (now < before) if p[2] == "x" else (now > before):
-            point, = (q[0] | q[1]) - (p[0] | p[1])
-            words = [WORDS[letter(board, it)].split()[0] for it in (p, q)]
-            yield f"says lost {number} {point} {kit.field(words)}"
-
-
 def names() -> None:
     """Prints what test_stories says of the reviews."""
     for name, *_ in RECORDS:
@@ -457,17 +411,27 @@ def names() -> None:
 
 
 def reviews() -> None:
-    """Prints the rows of the reviews."""
+    """Prints 200 rows of test_stories on noughts and crosses. In each kind with lines the board
+    begins empty or with some marks, with either side to move; moves are taken back now and then.
+    Values are found by trying all plays."""
     for name, board, events, trail in RECORDS:
         begin = position_rows(*trail[0]).replace(";", "; ")
         print(f"\nrow {name}\nfile G posgame 1; kind {board.kind}; @three; {begin};\nfile R",
               *(f"{it};" for it in ["posgame-record 1", *events]))
-        print("run review G R\nstatus 0", *losses(board, trail), sep="\n")
+        print("run review G R\nstatus 0")
+        for number, (p, q) in enumerate(zip(trail, trail[1:])):
+            before, now = board.value(*p), board.value(*q)
+            if (now < before) if p[2] == "x" else (now > before):
+                point, = (q[0] | q[1]) - (p[0] | p[1])
+                words = [WORDS[letter(board, it)].split()[0] for it in (p, q)]
+                print(f"says lost {number} {point} {kit.field(words)}")
         print(f"says reviewed {len(trail) - 1}")
 
 
 def values() -> None:
-    """Prints the lines of games and of pairs."""
+    """Prints the lines `value` and `pair` of test_stories. There are 300 games with a point a turn,
+    the first 120 of them with two points for Y except in Maker-Maker, 200 with two or three points
+    for Y and without marks, and 200 pairs of positions, drawn from their numbers as seeds."""
     for board, place in GAMES:
         rows = f"kind {board.kind};{board_rows(board)};{position_rows(*place)};"
         print(f"value {WORDS[letter(board, place)]}={rows}")
@@ -475,7 +439,9 @@ def values() -> None:
 
 
 def totals() -> None:
-    """Prints how many games and pairs have each value."""
+    """Prints how many of these games and pairs have each value: m and b for Maker and Breaker, a
+    and e for Avoider and Enforcer, x, y and d for Maker-Maker and its draw. A pair is m or b if the
+    first position is no worse for the winner of the second, and else that winner, x or y."""
     for name, letters, found in (("games", "mbaexyd", [*itertools.starmap(letter, GAMES)]),
                                  ("pairs", "mbxy", [*itertools.starmap(pair, PAIRS)])):
         print(f"{name}:", *(f"{it} {found.count(it)}" for it in letters))

@@ -4,11 +4,11 @@
 1 an answer at once      2 ./prove        3 what went wrong is said to people
 4 licence and version    5 install        6 README        7 the first example is a board
 
-The quick rows take the proved programs of crates/posgame/out and crates/posgame_draw/out; no clock
-decides them. The rows of minutes need a quiet machine where they have a limit of time. One row is
-tried only where it is named, since it changes the machine: `--only dpkg` installs the Debian
-package. `--list` shows all rows, and `--only WORD` tries those with the word in their names. Each
-row prints its figures, and what missed its limit; then the status is 1. Nothing here is proved.
+The quick rows take the proved programs in crates/NAME/out; no clock decides them. The rows of
+minutes need a quiet machine where they have a limit of time. One row is tried only where it is
+named, since it changes the machine: `--only dpkg` installs the Debian package. `--list` shows all
+rows, and `--only WORD` tries those with the word in their names. Each row prints its figures, and
+what missed its limit; then the status is 1. Nothing here is proved.
 """
 from __future__ import annotations
 
@@ -37,6 +37,9 @@ import release
 TOP = pathlib.Path(__file__).resolve().parent.parent
 PROGRAM = TOP / "crates" / "posgame" / "out" / "posgame"
 DRAWS = TOP / "crates" / "posgame_draw" / "out" / "posgame_draw"
+SETTLES = TOP / "crates" / "posgame_settle" / "out" / "posgame_settle"
+# The programs by the names of their scripts.
+PROGRAMS = {"posgame": PROGRAM, "posgame-draw": DRAWS, "posgame-settle": SETTLES}
 BOARD = "examples/noughts-and-crosses.game"
 PAIRS = "examples/breaker-in-the-centre.cert"
 FAULTY = "examples/a-pair-missing.cert"
@@ -91,13 +94,13 @@ def install(prefix: pathlib.Path) -> pathlib.Path:
     """Lays the files out as they are installed below PREFIX, and returns the script posgame."""
     for folder in ("bin", "libexec/posgame", "share/posgame"):
         (prefix / folder).mkdir(parents=True)
-    for name in ("posgame", "posgame-draw"):
+    for name, program in PROGRAMS.items():
         shutil.copy(TOP / "launch" / name, prefix / "bin" / name)
+        shutil.copy(program, prefix / "libexec" / "posgame" / name)
     shutil.copy(TOP / "posgame-why", prefix / "bin")
-    shutil.copy(PROGRAM, prefix / "libexec" / "posgame" / "posgame")
-    shutil.copy(DRAWS, prefix / "libexec" / "posgame" / "posgame-draw")
-    for name in ("run.bash", "explain.bash", "usage.txt", "usage-draw.txt", "codes.txt"):
-        shutil.copy(TOP / "launch" / name, prefix / "share" / "posgame")
+    for path in (TOP / "launch").iterdir():
+        if path.suffix in (".bash", ".txt"):
+            shutil.copy(path, prefix / "share" / "posgame")
     if (TOP / "VERSION").is_file():
         shutil.copy(TOP / "VERSION", prefix / "share" / "posgame")
     return prefix / "bin" / "posgame"
@@ -130,7 +133,7 @@ def statuses(room: pathlib.Path) -> list[Case]:
         Case(["check", BOARD, PAIRS], 0, "accepted x y win\n", "^$"),
         Case(["solve", BOARD, str(room / "C")], 0, "result breaker\n", "^$"),
         Case(["solve", "--positions", "1", "examples/empty-board-maker.game", str(room / "C")],
-             1, "unknown after 1 positions\n", "try it without --positions"),
+             1, "unknown after 1 positions\n", "try it without --positions, or .posgame-settle"),
         Case(["--help"], 2, "words: no meaning\n", r"^posgame .*\n(.*\n)+"),
         Case(["gen", "bridge", "23", str(room / "G")], 2, "words: no meaning\n", "^posgame "),
         Case(["play", BOARD, PAIRS, "--side", "x"], 2, "words: no claim for side x\n",
@@ -183,6 +186,43 @@ def draws() -> str:
     expect(run(DRAWS, ["--version"]).stdout == told, "the program names another version")
     expect(run(DRAWS, ["--help"]).returncode == 0, "the program has no --help")
     return "9 runs"
+
+
+def settles(script: pathlib.Path, room: pathlib.Path) -> int:
+    """posgame-settle by one of its scripts: its results, its words, its faults."""
+    slip, cert = "examples/rosette-with-a-slip.game", str(room / "S")
+    cases = [
+        Case(["examples/diamond.game", cert, "--images"], 0, "class first-mover\n", "^$"),
+        Case(["examples/four-in-a-row-empty-board.game", cert, "--positions", "1"], 1,
+             "unknown after 1 positions\n", "try greater numbers after --positions"),
+        Case([BOARD, cert, "--nodes", "200001"], 2, "", "200001"),
+        Case([BOARD], 2, "", "CERT"),
+        Case([slip, cert, "--entries=5"], 3, "game G6 line 4\n", "line 4: .* .G6.\n    line"),
+        Case(["none", cert], 5, "", "none: "),
+        Case([BOARD, str(room / "none" / "S")], 6, "", "warning: .*: there is no folder"),
+    ]
+    for case in cases:
+        try_case(script, case)
+    ended = run(script, [BOARD, cert])
+    found = re.fullmatch(r"result breaker\nexpanded \d+ nodes \d+\n", ended.stdout)
+    expect(bool(found) and not ended.stderr and ended.returncode == 0, f"{ended}")
+    told = run(TOP / "posgame", ["check", BOARD, cert]).stdout
+    expect(told == "accepted x y win\n", f"its certificate: {told!r}")
+    return len(cases) + 1
+
+
+def settled() -> str:
+    """posgame-settle in a checkout and installed, and what it stores."""
+    with folder() as room:
+        scripts = TOP / "posgame-settle", install(room / "prefix").with_name("posgame-settle")
+        count = sum(settles(it, room) for it in scripts)
+    helped = run(scripts[0], ["--help"])
+    expect(helped.returncode == 0 and "--entries N" in helped.stdout, f"--help: {helped}")
+    told = run(scripts[0], ["--version"]).stdout
+    expect(bool(re.fullmatch(r"posgame-settle [0-9.]*\n", told)), f"--version: {told!r}")
+    expect(run(SETTLES, ["--version"]).stdout == told, "the program names another version")
+    expect(run(SETTLES, ["--help"]).returncode == 0, "the program has no --help")
+    return f"{count + 4} runs"
 
 
 def codes() -> str:
@@ -603,14 +643,14 @@ def same_answers() -> str:
 
 
 def prove_from_nothing() -> str:
-    """Proves and builds both programs in a clean clone."""
+    """Proves and builds the programs in a clean clone."""
     with folder() as room:
         there, begun = clean_clone(room), time.perf_counter()
         ended = subprocess.run([there / "prove"], stdin=subprocess.DEVNULL).returncode
         minutes = (time.perf_counter() - begun) / 60
         told = f"after {minutes:.1f} min, {load()}"
         expect(ended == 0, f"status {ended}, {told}")
-        for program in (PROGRAM, DRAWS):
+        for program in PROGRAMS.values():
             made = there / program.relative_to(TOP)
             expect(os.access(made, os.X_OK), f"no {made.name}")
             if program.is_file():
@@ -664,6 +704,7 @@ ROWS = [
     Row(2, "prove from nothing", prove_from_nothing, "named"),
     Row(3, "statuses, and what is said of them", answers),
     Row(3, "pictures, and what is said of them", draws),
+    Row(3, "boards settled, and what is said of them", settled),
     Row(3, "texts of the codes", codes),
     Row(3, "usage", usage),
     Row(3, "odd names, and games from standard input", odd_names),

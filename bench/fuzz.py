@@ -20,7 +20,6 @@ case and shows its files. The status is 1 if it finds something. Unproved.
 """
 from __future__ import annotations
 
-import argparse
 import collections
 import getopt
 import os
@@ -36,11 +35,10 @@ Draw = random.Random
 # Games and certificates by their family: `span`, `vec`, or none.
 Pairs = dict[str, list[tuple[bytes, bytes]]]
 
-SECONDS = 2
-BY_THE_CLOCK = 30
-MEGABYTES = 200
-# Words that are put into files, arguments, and what the commands may print at each status.
-*LISTS, SHARED, DUES = kit.stanzas("fuzz.txt")
+SECONDS, BY_THE_CLOCK, MEGABYTES = 2, 30, 200
+# Words that are put into files and arguments, and patterns: their parts with names, words that have
+# a meaning, and what the commands may print at each status.
+*LISTS, SHARED, MEANINGS, DUES = kit.stanzas("fuzz.txt")
 KEYS, SIGNS, FAMILY_KEYS, FAMILY_SIGNS, NUMBERS, NAMES, WORDS = (
     " ".join(it).split() for it in LISTS)
 PATTERNS = dict(it.split(" ", 1) for it in SHARED)
@@ -51,15 +49,18 @@ COMMANDS = ["solve G C", "check G C", "play G C --side x", "report G C", "gen ro
 TYPED = ["", " 3\t", "x", "00", "9" * 70, "-1", "3 4", "\0", "ä", "1" * 64]
 
 
-def due(command: str, status: int) -> Optional[str]:
-    """The pattern of what a command may print at a status, or None if it can't have that."""
-    rows = [it.split(":", 2) for it in DUES]
-    texts = [text.strip() for commands, statuses, text in rows
-             if re.fullmatch(commands, command) and re.fullmatch(statuses, f" {status}")]
-    pattern = "|".join(texts)
+def whole(pattern: str) -> str:
+    """The pattern with its named parts in place of their names."""
     for name in reversed(PATTERNS):
         pattern = pattern.replace(name, f"({PATTERNS[name]})")
-    return pattern if texts else None
+    return pattern
+
+
+def due(command: str, status: int) -> Optional[str]:
+    """The pattern of what a command may print at a status, or None if it can't have that."""
+    texts = [text.strip() for commands, statuses, text in (it.split(":", 2) for it in DUES)
+             if re.fullmatch(commands, command) and re.fullmatch(statuses, f" {status}")]
+    return whole("|".join(texts)) if texts else None
 
 
 class Program:
@@ -82,17 +83,6 @@ def held(folder: pathlib.Path) -> dict[str, Optional[bytes]]:
             for it in folder.rglob("*")}
 
 
-# The words that have a meaning, a line each, with options after a \0. Names of files that are
-# written are groups, and so are the numbers of a scattered game, which are looked at further.
-NAME, FAMILY = r"(?:\n[^\n\0]*)", "|".join(kit.FAMILIES)
-MEANT = re.compile(rf"""
-    (?:(?:{FAMILY})\n)?(?:check{NAME}{NAME}|play{NAME}{NAME}\0--side=[xy])|report{NAME}{NAME}
-    |(?:{FAMILY})\nsolve{NAME}({NAME})
-    |solve{NAME}({NAME})(?:\0--positions=(?:[1-9][0-9]{{0,4}}|100000))?
-    |gen\n(?:rows\n(?:[2-9]|1[0-6])|bridge\n(?:[1-9]|1[0-9]|2[0-2])
-        |scatter(?P<numbers>(?:\n(?:0|[1-9][0-9]{{0,9}})){{4}}))({NAME})({NAME})?""", re.VERBOSE)
-
-
 def meaning(words: list[str]) -> tuple[str, list[str]]:
     """The command and what it writes; nothing if the words have no meaning. (None of those drawn
     is an option cut short, which getopt would take.)"""
@@ -100,15 +90,16 @@ def meaning(words: list[str]) -> tuple[str, list[str]]:
         options, others = getopt.gnu_getopt(words, "", ["positions=", "side="])
     except getopt.GetoptError:
         return "", []
-    found = MEANT.fullmatch("\n".join(others) + "".join(f"\0{'='.join(it)}" for it in options))
-    if not found:
-        return "", []
-    seed, points, lines, size = map(int, (found["numbers"] or "0 1 0 1").split())
-    if (seed >= 2**31 or not 1 <= size <= points <= 256 or size > 100 or lines > 20_000
-            or lines * size > 400_000):
+    text = "\n".join(others) + "".join(f"\0{'='.join(it)}" for it in options)
+    rows = (whole(it).replace(" --", "\0--").replace(" ", "\n").split(":\n") for it in MEANINGS)
+    counts = [int(count) for count, pattern in rows if re.fullmatch(pattern, text)]
+    is_scattered = counts and others[:2] == ["gen", "scatter"]
+    seed, points, lines, size = map(int, others[2:6] if is_scattered else "0101")
+    if (not counts or seed >= 2**31 or not 1 <= size <= points <= 256 or size > 100
+            or lines > 20_000 or lines * size > 400_000):
         return "", []
     command = " ".join(others[: 2 if others[0] in kit.FAMILIES else 1])
-    return command, [it[1:] for it in found.groups() if it and it != found["numbers"]]
+    return command, others[len(others) - counts[0]:]
 
 
 def wrongs(program: Program, words: list[str], typed: bytes = b"") -> tuple[list[str], int, str]:
@@ -176,8 +167,7 @@ def lines_moved(draw: Draw, data: bytes, _: list[str]) -> bytes:
 def words_changed(draw: Draw, data: bytes, pool: list[str]) -> bytes:
     """One word changed."""
     parts = re.split(rb"([ \n|:-])", data)
-    place = draw.randrange(len(parts))
-    how = draw.randrange(4)
+    place, how = draw.randrange(len(parts)), draw.randrange(4)
     if how == 0 and parts[place].isdigit():
         parts[place] = b"%d" % max(0, int(parts[place]) + draw.choice((-1, 1, 1, 7, 100)))
     else:
@@ -187,12 +177,11 @@ def words_changed(draw: Draw, data: bytes, pool: list[str]) -> bytes:
 
 def numbers_changed(draw: Draw, data: bytes, _: list[str]) -> bytes:
     """One number a little higher or lower: what is most often still a file in form."""
-    found = list(re.finditer(rb"\d+", data))
-    if not found:
-        return data
-    at = draw.choice(found)
-    number = max(0, int(at[0]) + draw.choice((-1, 1)))
-    return data[: at.start()] + b"%d" % number + data[at.end() :]
+    parts = re.split(rb"(\d+)", data)
+    if len(parts) > 1:
+        place = draw.randrange(1, len(parts), 2)
+        parts[place] = b"%d" % max(0, int(parts[place]) + draw.choice((-1, 1)))
+    return b"".join(parts)
 
 
 def long_file(draw: Draw, data: bytes, _: list[str]) -> bytes:
@@ -329,32 +318,28 @@ def pairs_of_examples(program: Program) -> Pairs:
     return {family: pairs * 6 + rejected[family] for family, pairs in accepted.items()}
 
 
-def try_cases(program: Program, given: argparse.Namespace) -> tuple[int, int, list[str]]:
-    """Runs cases, and returns how many runs and cases there were and what was wrong."""
-    pairs, wrong = pairs_of_examples(program), []
-    begun, number = len(program.runs), given.first
-    while len(program.runs) - begun < given.runs:
-        draw = random.Random(f"{given.seed} {number}")
-        case: Any = draw.choice(CASES)
-        found = case(draw, program, pairs)
-        again = f"repeat with --seed {given.seed} --first {number} --runs 1"
-        wrong += [f"{case.__name__} {number}: {it}; {again}" for it in found]
-        for name, data in sorted(held(program.folder).items()) if found and given.runs == 1 else ():
-            print(f"{name}: {data if data is None or len(data) < 2_000 else data[:2_000] + b'..'}")
-        number += 1
-    return len(program.runs) - begun, number - given.first, wrong
-
-
 def main() -> int:
     given = kit.options(__doc__, runs=(20_000, "so many runs, or a few more"), seed=1,
                         first=(0, "the number of the first case"))
+    wrong, number = [], given.first  # type: list[str], int
     with kit.files() as folder:
         program = Program(given.program, folder)
-        count, cases, wrong = try_cases(program, given)
-    table, runs = kit.Table("what", "number"), program.runs
+        pairs, runs = pairs_of_examples(program), program.runs
+        begun = len(runs)
+        while len(runs) - begun < given.runs:
+            draw = random.Random(f"{given.seed} {number}")
+            case: Any = draw.choice(CASES)
+            found = case(draw, program, pairs)
+            again = f"repeat with --seed {given.seed} --first {number} --runs 1"
+            wrong += [f"{case.__name__} {number}: {it}; {again}" for it in found]
+            for name, data in sorted(held(folder).items()) if found and given.runs == 1 else ():
+                part = data[:2_000] + b".." if data and len(data) >= 2_000 else data
+                print(f"{name}: {part!r}")
+            number += 1
     statuses = sorted(collections.Counter(it.status for it in runs).items())
-    for row in (("runs", count), ("cases", cases), ("findings", len(wrong)),
-                ("greatest memory, MB", max(it.megabytes for it in runs)),
+    table = kit.Table("what", "number")
+    for row in (("runs", len(runs) - begun), ("cases", number - given.first),
+                ("findings", len(wrong)), ("greatest memory, MB", max(it.megabytes for it in runs)),
                 ("longest run, s of a processor", f"{max(it.processor for it in runs):.2f}"),
                 *((f"runs ended with status {status}", many) for status, many in statuses)):
         table.row(*row)

@@ -1,32 +1,10 @@
 #!/usr/bin/env python3
-"""Measures posgame on large games and certificates: instructions, seconds and memory.
+"""Measures posgame on large games and certificates: instructions, seconds and memory. Unproved.
 
     bench/games.py [PROGRAM] PART [--only WORD]
 
-PART is classes, searches, families, certificates, drawn or files.
-
 Instructions are counted by callgrind; searches and certificates are measured without it too. What
 reading a game takes is measured by a check of an empty certificate.
-
-classes: large switching games are solved. The instructions are those of `classify`, and of the
-whole run. The certificate that is stored must be accepted.
-
-searches: seven boards are solved. The functions that take most of a count above its limit are
-shown.
-
-families: connectivity games and games on vectors are solved, what is stored is checked, and the
-side that wins is played against replies that go round the points. What reading takes is subtracted.
-Of the player's moves, each with the reply before it, the most expensive is shown. The vectors of a
-Bridg-it board must have the class of the board.
-
-certificates: large ones are checked, reading included, and their instructions counted on a smaller
-file of the same kind. Two are read for a game that has no such points, and so refused.
-
-drawn: certificates that a seeded generator draws (bench/drawn.py) are checked, with a limit of
-instructions a byte for each. Their games have lines of several lengths.
-
-files: the largest game files are read. Others of as many lines and points are made by posgame
-itself, and then read. Unproved.
 """
 from __future__ import annotations
 
@@ -73,10 +51,10 @@ SWITCHING: list[tuple[str, kit.Graph, kit.Edge]] = [
 
 
 def classes(program: str, only: str) -> int:
-    """Measures classing, in which `classify` is counted with all that it calls."""
-    table = kit.Table("board", "edges", "class",
-                      kit.Column("`classify`, instructions", ",.0f", 2e7), "whole run",
-                      kit.Column("s", ".3f"), "KB")
+    """Solves large switching games. The instructions are those of `classify`, with all that it
+    calls, and of the whole run. The certificate that is stored must be accepted."""
+    table = kit.Table("board", "edges", "class", ("`classify`, instructions", ",.0f", 2e7),
+                      "whole run", ("s", ".3f"), "KB")
     for name, graph, terminals in kit.named(only, SWITCHING):
         with kit.files(game=kit.switching(graph, terminals)) as folder:
             words, counts = (folder / "game", folder / "certificate"), folder / "counts"
@@ -112,10 +90,9 @@ SEARCHES = [
 
 
 def searches(program: str, only: str) -> int:
-    """Measures searches."""
-    table = kit.Table("board", "answer", kit.Column("million instructions", ",.1f"), "limit",
-                      kit.Column("to read", ".1f"), kit.Column("s", ".3f"),
-                      kit.Column("KB", limit=30_000))
+    """Solves seven boards. The functions that take most of a count above its limit are shown."""
+    table = kit.Table("board", "answer", ("million instructions", ",.1f"), "limit",
+                      ("to read", ".1f"), ("s", ".3f"), ("KB", ",", 30_000))
     for name, kind, points, lines, answer, limit in kit.named(only, SEARCHES):
         text = kit.game(kind, f"points {points}", *kit.line_rows(lines))
         with kit.files(game=text) as folder:
@@ -126,8 +103,7 @@ def searches(program: str, only: str) -> int:
                 read = kit.count(program, "check", words[2], "/dev/null").instructions / 1e6
                 whole = kit.count(*words, counts=counts).instructions / 1e6
             if whole and whole > limit:
-                listed = re.findall(r"^ *[\d,]+ \(.*$", kit.listing(counts), re.MULTILINE)
-                wrong += listed[1:13]
+                wrong += re.findall(r"^ *[\d,]+ \(.*$", kit.listing(counts), re.MULTILINE)[1:13]
         table.row(name, done.said, (whole, limit), limit, read, done.seconds, done.kilobytes,
                   wrong=wrong)
     return table.end()
@@ -204,32 +180,32 @@ def dearest(folder: pathlib.Path, words: Iterable[object], typed: str) -> tuple[
 def measured(program: str, text: str, other: str = "") -> tuple[list[Any], list[str]]:
     """The cells of a game of a family, and what is wrong with them."""
     with kit.files(game=text, other=other) as folder:
-        paths = folder / "game", folder / "certificate"
-        words = program, *kit.family_of(text)
+        words, paths = (program, *kit.family_of(text)), (folder / "game", folder / "certificate")
         solve, check, play = ((*words, it, *paths) for it in ("solve", "check", "play"))
-        read = *words, "check", paths[0], "/dev/null"
-        solved, checked, least = (kit.quickest(5, *it) for it in (solve, check, read))
-        solving, checking, reading = (kit.count(*it).instructions for it in (solve, check, read))
+        commands = (*words, "check", paths[0], "/dev/null"), solve, check
+        least, solved, checked = (kit.quickest(5, *it) for it in commands)
+        reading, *counts = (kit.count(*it).instructions for it in commands)
         said, turn = solved.said.removeprefix("class "), text.split()[-1]
         points = len(re.findall("^(?:edge|vector) ", text, re.MULTILINE))
         side = {"maker": "x", "short": "x", "first-mover": turn}.get(said, "y")
         replies = "".join(f"{step * 617 % points}\n" for step in range(200))
         moves, dear = dearest(folder, (*play, "--side", side), replies)
         due = kit.run(program, "solve", folder / "other", paths[1]).said if other else solved.said
-    costs = [cost for done, instructions in ((solved, solving), (checked, checking)) for cost in (
-        (instructions - reading) / 1e6, max(done.seconds - least.seconds, 0) * 1000)]
-    wrong = [] if checked.is_accepted else ["not accepted"]
-    wrong += [f"not {due}"] * (due != solved.said)
+    costs = [cost for done, count in zip((solved, checked), counts) for cost in (
+        (count - reading) / 1e6, max(done.seconds - least.seconds, 0) * 1000)]
+    wrong = ["not accepted"] * (not checked.is_accepted) + [f"not {due}"] * (due != solved.said)
     return [said, *costs, moves, dear / 1e6, solved.kilobytes], wrong
 
 
 def families(program: str, only: str) -> int:
-    """Measures games of families. Time is limited, and as many million instructions as 3,000
-    million a second make of it."""
-    table = kit.Table("game", "class", kit.Column("solved, million instructions", ".4g", 600),
-                      kit.Column("ms", ".4g", 200), kit.Column("checked, million", ".4g", 150),
-                      kit.Column("ms", ".4g", 50), "moves",
-                      kit.Column("dearest, million", ".4g", 15), kit.Column("KB", limit=16_000))
+    """Solves connectivity games and games on vectors, checks what is stored, and plays the side
+    that wins against replies that go round the points. What reading takes is subtracted. Of the
+    player's moves, each with the reply before it, the most expensive is shown. The vectors of a
+    Bridg-it board must have the class of the board. Time is limited, and as many million
+    instructions as 3,000 million a second make of it."""
+    table = kit.Table("game", "class", ("solved, million instructions", ".4g", 600),
+                      ("ms", ".4g", 200), ("checked, million", ".4g", 150), ("ms", ".4g", 50),
+                      "moves", ("dearest, million", ".4g", 15), ("KB", ",", 16_000))
     for name, *texts in kit.named(only, family_games()):
         cells, wrong = measured(program, *texts)
         table.row(name, *cells, wrong=wrong)
@@ -237,54 +213,33 @@ def families(program: str, only: str) -> int:
 
 
 # Certificates: game and certificate; the small games have two lines.
-POINTS = 16
-LINES = range(0, 9), range(7, 16)
-Files = tuple[str, str]
+POINTS, SMALL = 16, drawings.Board(16, [range(0, 9), range(7, 16)])
+NOUGHTS = (kit.EXAMPLES / "noughts-and-crosses.game").read_text()
 
 
-def node(x: Iterable[int], y: Iterable[int], turn: str, body: str) -> str:
-    """Returns the line of a node."""
-    return f"{kit.field(sorted(x))}|{kit.field(sorted(y))}|{turn}|{body}\n"
-
-
-def put_tree(nodes: list[str], count: int) -> tuple[kit.Points, kit.Points]:
+def put_tree(nodes: list[str], count: int) -> drawings.Place:
     """Adds nodes up to `count` of a game without lines on 16 points, in which Y claims a draw: full
-    boards, then Y's last moves, then moves of X before these. Returns the position of the last."""
-    most, half, every = (count + len(nodes)) // 2 + 1, POINTS // 2, frozenset(range(POINTS))
-    place: dict[tuple[kit.Points, kit.Points], int] = {}
+    boards, then Y's last moves, then moves of X before these. Returns the place of the last."""
+    most, every = (count + len(nodes)) // 2 + 1, SMALL.points
+    full, late = ([frozenset(it) for it in itertools.combinations(range(POINTS), size)]
+                  for size in (POINTS // 2, POINTS // 2 - 1))
+    number: dict[drawings.Place, int] = {}
 
-    def put(x: kit.Points, y: kit.Points, turn: str, body: str) -> None:
-        place[x, y] = len(nodes)
-        nodes.append(node(x, y, turn, body))
+    def put(word: str, place: drawings.Place, *moves: str) -> None:
+        number[place] = len(nodes)
+        nodes.append(drawings.row(place, kit.field([word, *moves])))
 
-    for x in map(frozenset, itertools.combinations(range(POINTS), half)):
-        put(x, every - x, "x", "over")
-    for y in map(frozenset, itertools.combinations(range(POINTS), half - 1)):
-        for v in sorted(every - y)[: max(most - len(nodes), 0)]:
-            x = every - y - {v}
-            put(x, y, "y", f"move {v} {place[x, y | {v}]}")
-    moves = [it for it in place if len(it[1]) == half - 1]
-    for x, y in ((x - {back}, y) for x, y in moves for back in sorted(x)):
-        free = sorted(every - x - y)
-        children = [place.get((x | {v}, y)) for v in free]
-        if len(nodes) < count and None not in children and (x, y) not in place:
-            put(x, y, "x", kit.field(["all", *map("{}:{}".format, free, children)]))
+    for x in full:
+        put("over", drawings.Place(x, every - x, "x"))
+    places = (drawings.Place(every - y - {v}, y, "y") for y in late for v in sorted(every - y))
+    for place in itertools.islice(places, most - len(nodes)):
+        put("move", place, *(f"{v} {number[place.after(v)]}" for v in SMALL.free(place)))
+    places = (drawings.Place(every - y - {*pair}, y, "x") for y in late
+              for pair in itertools.combinations(sorted(every - y), 2))
+    for place in itertools.islice(places, count - len(nodes)):
+        put("all", place, *(f"{v}:{number[place.after(v)]}" for v in SMALL.free(place)))
     assert len(nodes) == count
-    return list(place)[-1]
-
-
-def mixed_leaf(draw: random.Random, is_potential: bool) -> Optional[str]:
-    """Returns a node at a random position of two lines, or None if there are too few pairs."""
-    marks = draw.sample(range(POINTS), draw.choice((4, 6, 8)))
-    pairs, used = ["pairs"], set(marks)
-    for line in (it for it in LINES if not set(it) & set(marks[1::2])):
-        own = sorted(set(line) - used)[:2]
-        if len(own) < 2:
-            return None
-        pairs.append("{}-{}".format(*own))
-        used.update(own)
-    body = "potential" if is_potential else kit.field(pairs)
-    return node(marks[::2], marks[1::2], "x", body)
+    return place
 
 
 def maker_maker(*rows: str, points: int = 256) -> str:
@@ -292,72 +247,68 @@ def maker_maker(*rows: str, points: int = 256) -> str:
     return kit.game("maker-maker", f"points {points}", *rows)
 
 
-def draws(nodes: str, times: int = 1, copies: int = 1) -> str:
-    """Returns a certificate with a claim of a draw by Y, once or twice."""
-    return kit.certificate(*[kit.claim("x y draw", nodes, times)] * copies)
+def draws(nodes: str, times: int = 1, turns: str = "x") -> str:
+    """Returns a certificate with a claim of a draw by Y for each of these turns."""
+    return kit.certificate(*(kit.claim(f"{turn} y draw", nodes, times) for turn in turns))
 
 
-def mixed_files(count: int = 100_000) -> Files:
-    """Two claims of nodes of over, move, all, potential and pairs."""
+def mixed_files(count: int = 100_000) -> drawings.Files:
+    """Two claims of nodes of over, move, all, potential and pairs, the last two at random positions
+    that have pairs."""
     draw, nodes = random.Random(1), []  # type: random.Random, list[str]
     while len(nodes) < 2 * count // 5:
-        nodes += filter(None, [mixed_leaf(draw, len(nodes) % 2 > 0)])
-    marks = kit.mark_rows(*put_tree(nodes, count))
-    game = maker_maker(*kit.line_rows(LINES), *marks, points=POINTS)
-    return game, draws("".join(nodes), copies=2)
+        marks = draw.sample(range(POINTS), draw.choice((4, 6, 8)))
+        place = drawings.Place(frozenset(marks[::2]), frozenset(marks[1::2]), "x")
+        pairs = SMALL.pairs(place)
+        if pairs:
+            nodes.append(drawings.row(place, "potential" if len(nodes) % 2 else pairs))
+    place = put_tree(nodes, count)
+    rows = *kit.line_rows(map(sorted, SMALL.lines)), *kit.mark_rows(place.x, place.y)
+    return maker_maker(*rows, points=POINTS), draws("".join(nodes), turns="xx")
 
 
-def all_files(size: int = 100_000_000) -> Files:
+def all_files(size: int = 100_000_000) -> drawings.Files:
     """Nodes of 250 replies each, at one position, and the nodes that they name."""
-    free = range(6, 256)
-    children = "".join(node((0, 1, 2, v), (3, 4, 5), "y", "potential") for v in free)
-    above = node((0, 1, 2), (3, 4, 5), "x", kit.field(["all", *(f"{v}:{v - 6}" for v in free)]))
+    children = "".join(f"0 1 2 {v}|3 4 5|y|potential\n" for v in range(6, 256))
+    above = f"0 1 2|3 4 5|x|all {kit.field(f'{v}:{v - 6}' for v in range(6, 256))}\n"
     return maker_maker("x 0 1 2", "y 3 4 5"), draws(children + above * (size // len(above)))
 
 
-def long_files(size: int = 268_435_456) -> Files:
+def long_files(size: int = 268_435_456) -> drawings.Files:
     """A certificate of so many bytes with a fault of form in its last line."""
-    long, last = node((), (), "x", "pairs" + " 1000-1001" * 150), "||x|pairs"
-    count = (size - 100_000) // len(long) // 2
-    claim = f"claim x y draw\nnodes {count}\n" + long * (count - 1)
-    text = kit.certificate(claim, long, claim)
-    return maker_maker(), text + last + "-" * (size - len(text) - len(last) - 1) + "\n"
+    node = f"||x|pairs{' 1000-1001' * 150}\n"
+    count = (size - 100_000) // len(node) // 2
+    claim = f"claim x y draw\nnodes {count}\n" + node * (count - 1)
+    text = kit.certificate(claim, node, claim, "||x|pairs")
+    return maker_maker(), text.ljust(size - 1, "-") + "\n"
 
 
-def pair_files(size: int = 100_000_000) -> Files:
+def pair_files(size: int = 100_000_000) -> drawings.Files:
     """Two claims of nodes of 128 pairs."""
-    pairs = node((), (), "x", kit.field(["pairs", *(f"{v}-{v + 1}" for v in range(0, 256, 2))]))
+    node = f"||x|pairs {kit.field(f'{v}-{v + 1}' for v in range(0, 256, 2))}\n"
     lines = kit.line_rows((v, v + 1, (v + 7) % 256) for v in range(0, 256, 2))
-    return maker_maker(*lines), draws(pairs, size // len(pairs) // 2, 2)
+    return maker_maker(*lines), draws(node, size // len(node) // 2, "xx")
 
 
-def potential_files(count: int = 100) -> Files:
+def potential_files(count: int = 100) -> drawings.Files:
     """Potentials of 20,000 lines."""
-    lines = kit.line_rows(sorted((v + 7 * i) % 256 for i in range(20)) for v in range(256))
-    lines = itertools.islice(itertools.cycle(lines), 20_000)
+    lines = kit.line_rows(sorted((v + 7 * i) % 256 for i in range(20)) for v in range(20_000))
     return maker_maker(*lines), draws("||x|potential\n", count)
 
 
-def tree_files(rows: int = 21) -> Files:
+def tree_files(rows: int = 21) -> drawings.Files:
     """Bridg-it with its two trees, as trees for X and as cuts for Y. The first goes along each row
     up to the diagonal, and down to it; the second has the other edges."""
     along = [j < i for i in range(rows) for j in range(rows)]
     down = [j > i for i in range(rows - 1) for j in range(1, rows)]
-    first, second = (kit.field(k for k, it in enumerate(along + down) if it == own)
-                     for own in (True, False))
-    claims = [kit.claim(f"{side} {side} win", f"||{side}|{word} e {first} / {second}\n")
-              for side, word in (("x", "trees"), ("y", "cuts"))]
-    return kit.switching(kit.bridge(rows)), kit.certificate(*claims)
+    sets = " / ".join(kit.field(k for k, it in enumerate(along + down) if it == own)
+                      for own in (True, False))
+    return kit.switching(kit.bridge(rows)), kit.certificate(
+        kit.claim("x x win", f"||x|trees e {sets}\n"), kit.claim("y y win", f"||y|cuts e {sets}\n"))
 
 
-def foreign_files(nodes: str, times: int, *turns: str) -> Files:
-    """A certificate for a game that has no such points."""
-    claims = [kit.claim(f"{turn} y draw", nodes, times) for turn in turns]
-    return (kit.EXAMPLES / "noughts-and-crosses.game").read_text(), kit.certificate(*claims)
-
-
-LONG_PAIRS = "||x|pairs" + " 101-203" * 12_500 + "\n"
-# Of each pair of files the name, its function, and the size at which instructions are counted.
+# Of each pair of files the name, its function, and the size at which instructions are counted. Two
+# are foreign: the game has no such points.
 CERTIFICATES: list[tuple[Any, ...]] = [
     ("200,000 nodes of five kinds, 16 points", mixed_files, 100_000),
     ("100 MB of pairs, 256 points", pair_files, 3_000_000),
@@ -366,8 +317,9 @@ CERTIFICATES: list[tuple[Any, ...]] = [
     ("268,435,456 bytes, refused at the end", long_files),
     ("a byte more", lambda: long_files(268_435_457)),
     ("trees and cuts, 422 vertices, 841 edges", tree_files),
-    ("200,000 small nodes, foreign", lambda: foreign_files("||x|pairs\n", 100_000, *"xy")),
-    ("100 MB of pairs, foreign", lambda: foreign_files(LONG_PAIRS, 1_000, "x")),
+    ("200,000 small nodes, foreign", lambda: (NOUGHTS, draws("||x|pairs\n", 100_000, "xy"))),
+    ("100 MB of pairs, foreign",
+     lambda: (NOUGHTS, draws(f"||x|pairs{' 101-203' * 12_500}\n", 1_000))),
 ]
 
 
@@ -378,9 +330,10 @@ def checked(call: Callable[..., Any], program: str, game: str, stored: str) -> t
 
 
 def certificates(program: str, only: str) -> int:
-    """Measures checks of certificates."""
-    table = kit.Table("certificate", "bytes", kit.Column("s", ".2f"), kit.Column("MB", limit=24),
-                      kit.Column("instructions a byte", ".0f", 80), "printed")
+    """Checks large certificates, reading included, and counts their instructions on a smaller file
+    of the same kind. Two are read for a game that has no such points, and so refused."""
+    table = kit.Table("certificate", "bytes", ("s", ".2f"), ("MB", ",", 24),
+                      ("instructions a byte", ".0f", 80), "printed")
     for name, make, *small in kit.named(only, CERTIFICATES):
         (done, size), each = checked(kit.run, program, *make()), None
         if small and kit.has_valgrind():
@@ -400,17 +353,17 @@ DRAWN = [
 
 
 def drawn(program: str, only: str) -> int:
-    """Measures checks of certificates that are drawn."""
-    table = kit.Table("certificate", "bytes", kit.Column("instructions a byte", ".1f"), "limit",
-                      kit.Column("s", ".2f"), "MB")
+    """Checks certificates that a seeded generator draws (bench/drawn.py), with a limit of
+    instructions a byte for each. Their games have lines of several lengths."""
+    table = kit.Table("certificate", "bytes", ("instructions a byte", ".1f"), "limit",
+                      ("s", ".2f"), "MB")
     for name, make, limit in kit.named(only, DRAWN):
         files, each = make(), None
         done, size = checked(kit.run, program, *files)
         if kit.has_valgrind():
             each = checked(kit.count, program, *files)[0].instructions / size
-        wrong = [] if done.is_accepted else [done.said]
-        table.row(name, size, (each, limit) if each else None, limit, done.seconds, done.megabytes,
-                  wrong=wrong)
+        table.row(name, size, (each, limit), limit, done.seconds, done.megabytes,
+                  wrong=[done.said] * (not done.is_accepted))
     return table.end()
 
 
@@ -427,8 +380,9 @@ FILES = [
 
 
 def files(program: str, only: str) -> int:
-    """Measures reading and printing."""
-    table = kit.Table("game", "how", "bytes", kit.Column("s", ".2f"), "MB")
+    """Reads the largest game files. Others of as many lines and points are made by posgame itself,
+    and then read."""
+    table = kit.Table("game", "how", "bytes", ("s", ".2f"), "MB")
     for name, text, words in kit.named(only, FILES):
         with kit.files(game=text) as folder:
             path, due = folder / "game", f"game {name.replace(',', '')}\n"

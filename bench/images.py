@@ -11,10 +11,10 @@ lines of 20 points: 0.2 seconds of a processor at most. Unproved.
 """
 from __future__ import annotations
 
-import itertools
 from typing import Any, Iterator
 
 import kit
+import worst
 
 # Animals with the sizes of their boards: height and width.
 ANIMALS = [
@@ -22,8 +22,6 @@ ANIMALS = [
     ("tippy", "110/011", [(4, 4), (5, 5)]), ("fatty", "11/11", [(4, 4), (5, 5)]),
     ("skinny", "1111", [(4, 4)]),
 ]
-COLUMNS = ("board", "result", "nodes", "plain nodes folded", kit.Column("share", ".2f"),
-           "instructions", "with images", kit.Column("the flag's cost", ".1%", 0.1))
 
 
 def boards() -> Iterator[tuple[str, str]]:
@@ -41,16 +39,15 @@ def boards() -> Iterator[tuple[str, str]]:
 
 def heavy_board() -> str:
     """16 by 16 cells with some 20,000 lines of 20 points, which every map takes onto its lines."""
-    lines, seed = set(), 1
-    while len(lines) <= 20_000 - 8:
-        cells = set()
+    lines, seed = set(), 1  # type: set[tuple[int, ...]], int
+    while len(lines) <= 20_000 - worst.MAPS:
+        cells: set[int] = set()
         while len(cells) < 20:
             seed = seed * 6364136223846793005 + 1442695040888963407 & (1 << 64) - 1
-            cells.add(divmod((seed >> 33) % 256, 16))
-        for turned, down, right in itertools.product((False, True), repeat=3):
-            image = [(15 - r if down else r, 15 - c if right else c) for r, c in cells]
-            lines.add(tuple(sorted(c * 16 + r if turned else r * 16 + c for r, c in image)))
-    return kit.game("maker-breaker", "grid 16 16", *kit.line_rows(sorted(lines)))
+            cells.add((seed >> 33) % worst.POINTS)
+        lines |= {tuple(sorted(worst.image_of(cell, number) for cell in cells))
+                  for number in range(worst.MAPS)}
+    return kit.game("maker-breaker", worst.GRID, *kit.line_rows(sorted(lines)))
 
 
 def measured(program: str, text: str) -> tuple[list[Any], list[str]]:
@@ -60,7 +57,7 @@ def measured(program: str, text: str) -> tuple[list[Any], list[str]]:
         done, stored, is_accepted = kit.solved(program, text, *flags)
         said.append(done.said)
         nodes.append(sum("|" in row and "|image " not in row for row in stored.splitlines()))
-        wrong += [] if is_accepted else [f"the {name} one is not accepted"]
+        wrong += [f"the {name} one is not accepted"] * (not is_accepted)
         with kit.files(game=text) as folder:
             words = program, "solve", folder / "game", folder / "certificate", *flags
             costs.append(kit.count(*words).instructions if kit.has_valgrind() else None)
@@ -84,22 +81,22 @@ def fitting_seconds(program: str) -> float:
 def main() -> int:
     given = kit.options(__doc__, out=("", "the file written"),
                         only=("", "boards with this in their name; no file written"))
-    table, sums = kit.Table(*COLUMNS), [0, 0]
+    table = kit.Table("board", "result", "nodes", "plain nodes folded", ("share", ".2f"),
+                      "instructions", "with images", ("the flag's cost", ".1%", 0.1))
+    sums = [0, 0]
     for name, text in kit.named(given.only, boards()):
         cells, wrong = measured(given.program, text)
         table.row(name, *cells, wrong=wrong)
         sums = [total + (cost or 0) for total, cost in zip(sums, cells[4:6])]
     seconds = fitting_seconds(given.program)
-    if seconds > 0.2:
-        table.wrong.append(f"one map: {seconds:.3f} s")
+    table.wrong += [f"one map: {seconds:.3f} s"] * (seconds > 0.2)
     whole = f"{sums[1] / sums[0] - 1:.1%}" if sums[0] else "-"
-    tail = [f"All boards together: the flag costs {whole}.", "",
-            "Whether one map fits a board of 20,000 lines of 20 points takes "
-            f"{seconds:.3f} s of a processor."]
-    print("", *tail, sep="\n")
+    table.put("", f"All boards together: the flag costs {whole}.", "",
+              "Whether one map fits a board of 20,000 lines of 20 points takes "
+              f"{seconds:.3f} s of a processor.")
     if not given.only:
-        tail = ["", *tail, "", "Written by `bench/images.py`.", ""]
-        kit.write_page([kit.prose("IMAGES.md"), *table.lines, *tail], given, "IMAGES.md")
+        lines = [kit.prose("IMAGES.md"), *table.lines, "", "Written by `bench/images.py`.", ""]
+        kit.write_page(lines, given, "IMAGES.md")
     return table.end()
 
 

@@ -12,6 +12,7 @@ from __future__ import annotations
 import argparse
 import contextlib
 import functools
+import inspect
 import itertools
 import math
 import os
@@ -92,8 +93,10 @@ def options(text: Optional[str], program: Optional[str] = "posgame", parts: Sequ
 def call_part(text: Optional[str], name: Optional[str], *parts: Callable[..., Any],
               **more: Any) -> int:
     """Calls the part of a script that its last argument names, with the program `name`, if that
-    isn't None, and with further `options`; returns the status of the script."""
-    given = options(text, name, [it.__name__ for it in parts], **more)
+    isn't None, and with further `options`; returns the status of the script. The help says what
+    each part is."""
+    said = [str(text).strip(), *(f"{it.__name__}: {inspect.getdoc(it)}" for it in parts)]
+    given = options("\n\n".join(said), name, [it.__name__ for it in parts], **more)
     part = next(it for it in parts if it.__name__ == given.part)
     return part(*[given.program] if name else [], *(getattr(given, it) for it in more)) or 0
 
@@ -240,8 +243,8 @@ class Table:
     """A table in `lines`, printed row by row, and what is `wrong` with it. A row of limits comes
     first, if a column has one."""
 
-    def __init__(self, *columns: str | Column) -> None:
-        self.columns = [it if isinstance(it, Column) else Column(it) for it in columns]
+    def __init__(self, *columns: str | tuple[Any, ...]) -> None:
+        self.columns = [Column(it) if isinstance(it, str) else Column(*it) for it in columns]
         self.lines: list[str] = []
         self.wrong: list[str] = []
         limits = ["" if it.limit == math.inf else format(it.limit, it.form) for it in self.columns]
@@ -589,20 +592,20 @@ def marked(points: int) -> Iterator[tuple[Points, Points]]:
         yield x, y
 
 
-def set_game(count: int, passes: Callable[[int], bool]) -> Callable[[int, int, bool], bool]:
+def set_game(count: int,
+             passes: Callable[[Points], bool]) -> Callable[[Points, Points, bool], bool]:
     """Returns whether X wins, by X's points, Y's points and whether X moves, when X wants its
-    points to pass a test. Sets of points are numbers, bit by bit."""
-    whole = (1 << count) - 1
-    passing = [passes(points) for points in range(whole + 1)]
+    points to pass a test."""
+    every, known = frozenset(range(count)), functools.lru_cache(maxsize=None)(passes)
 
     @functools.lru_cache(maxsize=None)
-    def x_wins(x: int, y: int, x_moves: bool) -> bool:
-        if passing[x] or not passing[whole & ~y]:
-            return passing[x]
-        free = [1 << v for v in range(count) if not (x | y) >> v & 1]
+    def x_wins(x: Points, y: Points, x_moves: bool) -> bool:
+        if known(x) or not known(every - y):
+            return known(x)
+        free = every - x - y
         if x_moves:
-            return any(x_wins(x | point, y, False) for point in free)
-        return all(x_wins(x, y | point, True) for point in free)
+            return any(x_wins(x | {v}, y, False) for v in free)
+        return all(x_wins(x, y | {v}, True) for v in free)
 
     return x_wins
 

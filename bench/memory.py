@@ -8,8 +8,7 @@ given number, from 1 on until a run makes no such call. Each run has to end as i
 that, or with what it prints cut short: with status 7, or with 5 or 6 if the allocation was inside a
 call on files or the console. A claim that is played is never followed by 7. A file has to contain
 its old bytes or all of its new ones, and no other file may be left. In a review memory has to run
-out after the first loss too, since each loss must be printed before the next position is decided.
-Unproved.
+out after the first loss too: each is printed before the next position is decided. Unproved.
 """
 from __future__ import annotations
 
@@ -18,12 +17,12 @@ import itertools
 import os
 import pathlib
 import re
-import sys
 from typing import Iterator, NamedTuple
 
 import kit
 
 LINES = kit.line_rows(kit.in_row(3, 3, 3, by_direction=True))
+ROW = re.compile(r"^(.*): (\S+) (\S+)(?: \((.*)\))? => (.*)$", re.MULTILINE)
 # The texts of which bench/memory.txt speaks.
 TEXTS = {
     "SQUARE": kit.game("maker-breaker", "grid 3 3", *LINES),
@@ -48,7 +47,7 @@ class Row(NamedTuple):
 
     words: str
     files: dict[str, str]
-    typed: str
+    typed: list[str]
     due: list[str]
 
 
@@ -61,19 +60,12 @@ class Left(NamedTuple):
     refused: bool
 
 
-def rows() -> Iterator[Row]:
-    """Yields the rows of bench/memory.txt."""
-    pattern = r"^(.*): (\S+) (\S+)(?: \((.*)\))? => (.*)$"
-    for words, game, other, typed, due in re.findall(pattern, kit.data("memory.txt"), re.MULTILINE):
-        lines = "".join(f"{it}\n" for it in typed.split())
-        yield Row(words, {"G": TEXTS[game], "C": TEXTS[other]}, lines, due.split("; "))
-
-
 def leave(program: str, library: pathlib.Path, row: Row, number: int) -> Left:
     """Runs a row, in which the allocation of this number is refused; with 0 none is."""
     env = {**os.environ, "LD_PRELOAD": str(library), "REFUSED": str(number)}
+    typed = "".join(f"{it}\n" for it in row.typed)
     with kit.files(**row.files) as folder:
-        done = kit.call(program, *row.words.split(), cwd=folder, input=row.typed, env=env)
+        done = kit.call(program, *row.words.split(), cwd=folder, input=typed, env=env)
         files = {path.name: path.read_text(encoding="ascii") for path in folder.iterdir()}
     return Left(done.returncode, done.stdout.splitlines(), files, "refused" in done.stderr)
 
@@ -106,17 +98,18 @@ def main() -> int:
     program, table = kit.options(__doc__).program, kit.Table("run", "how it ended, by refusals")
     with kit.files() as folder:
         library, source = folder / "refusing.so", kit.TOP / "bench" / "refusing.c"
-        kit.call("cc", "-shared", "-fPIC", "-o", library, source, check=True,
-                 capture_output=False)
-        for number, row in enumerate(rows(), 1):
+        kit.call("cc", "-shared", "-fPIC", "-o", library, source, check=True, capture_output=False)
+        for number, found in enumerate(ROW.findall(kit.data("memory.txt")), 1):
+            words, game, other, typed, due = found
+            row = Row(words, {"G": TEXTS[game], "C": TEXTS[other]}, typed.split(), due.split("; "))
             counts = collections.Counter(endings(program, library, row))
             faults = [it.upper() for it in counts if it.startswith("broken")]
-            if row.words.startswith("review") and not counts["status 7 after 1"]:
+            if words.startswith("review") and not counts["status 7 after 1"]:
                 faults.append("NO LOSS IS PRINTED BEFORE THE NEXT POSITION IS DECIDED")
             figures = [f"{counts[it]} {it}" for it in sorted(counts)]
-            table.row(f"{number}: {row.words}", ", ".join(figures), wrong=faults)
+            table.row(f"{number}: {words}", ", ".join(figures), wrong=faults)
     return table.end()
 
 
 if __name__ == "__main__":
-    sys.exit(main())
+    raise SystemExit(main())

@@ -1,22 +1,7 @@
 #!/usr/bin/env python3
-"""Measures parts of a search by themselves, under callgrind.
+"""Measures parts of a search by themselves, under callgrind. PROGRAM is bench_parts. Unproved.
 
     bench/parts.py [PROGRAM] board | threat | match
-
-PROGRAM is bench_parts.
-
-board: a play with its undo on 256 points, and opening the board. Full games in mixed orders are
-played and taken back; the instructions of a run without a game are subtracted. Each line has ten
-points, so that 204, 2,048 and 20,000 lines are about 8, 80 and 800 through a point.
-
-threat: the search for threat lines, five in a row on 16 by 16 points. What one question takes is
-the difference of two runs, asking and only counting the same positions, shared among these. Then
-how many positions have a threat line of no reply, one, two and three.
-
-match: the search for private pairs on 256 points with 60 to 120 lines of ten points, near their own
-pair of points, far from it, anywhere, or short at the last line. Of each kind the one is taken for
-which a matcher of this script goes over the most points; the worst of all is then made harder by
-small changes. Unproved.
 """
 from __future__ import annotations
 
@@ -24,20 +9,21 @@ import collections
 import itertools
 import random
 import re
-from typing import Optional
 
 import kit
 
 POINTS, LONG, ASKS, TRIES = 256, 10, 100, 4_000
 Lines = list[kit.Line]
-Step = Optional[tuple[int, int]]
+Steps = list[tuple[int, int]]
 
 
 def board(program: str) -> None:
-    """Measures plays with their undo. Each point of a line is an odd step after the one before, so
-    that no two are the same."""
+    """Measures a play with its undo on 256 points, and opening the board. Full games in mixed
+    orders are played and taken back; the instructions of a run without a game are subtracted. Each
+    line has ten points, so that 204, 2,048 and 20,000 lines are about 8, 80 and 800 through a
+    point; each point of a line is an odd step after the one before, so that no two are the same."""
     table = kit.Table("lines", "plays", "instructions a play with its undo",
-                      "instructions to read and open", kit.Column("s", ".3f"))
+                      "instructions to read and open", ("s", ".3f"))
     for count in 204, 2_048, 20_000:
         lines = [sorted((k + i * (2 * (k // 256) + 1)) % POINTS for i in range(LONG))
                  for k in range(count)]
@@ -50,7 +36,9 @@ def board(program: str) -> None:
 
 
 def threat(program: str) -> None:
-    """Measures searches for threat lines."""
+    """Measures the search for threat lines, five in a row on 16 by 16 points. What one question
+    takes is the difference of two runs, asking and only counting the same positions, shared among
+    these. Then how many positions have a threat line of no reply, one, two and three."""
     lines = kit.in_row(16, 16, 5, by_direction=True)
     table = kit.Table("game and way", "instructions a position", "positions", "no reply", "1 reply",
                       "2 replies", "3 replies")
@@ -63,34 +51,31 @@ def threat(program: str) -> None:
         table.row(f"{kit.KINDS[kind]}, {way}", each, asked, *found)
 
 
-def search(lines: Lines, holder: dict[int, int], start: int) -> tuple[int, Step, dict[int, Step]]:
+def search(lines: Lines, holder: dict[int, int], start: int) -> tuple[int, Steps]:
     """A search by breadth for a point without a holder, from a line: how many points it goes over,
-    the line and point that it finds, and how each line was reached."""
-    came: dict[int, Step] = {start: None}
+    and the lines and points that lead to the one that it finds, none if there is none."""
+    came: dict[int, Steps] = {start: []}
     queue, count = [start], 0
     for line in queue:
         for v in lines[line]:
             count += 1
             if v not in holder:
-                return count, (line, v), came
+                return count, [*came[line], (line, v)]
             if holder[v] not in came:
-                came[holder[v]] = (line, v)
+                came[holder[v]] = [*came[line], (line, v)]
                 queue.append(holder[v])
-    return count, None, came
+    return count, []
 
 
 def passes(lines: Lines) -> int:
     """How many points are gone over until each line has two, or one has none to reach."""
     holder, count = {}, 0  # type: dict[int, int], int
     for seat in range(2 * len(lines)):
-        more, step, came = search(lines, holder, seat // 2)
+        more, steps = search(lines, holder, seat // 2)
         count += more
-        if not step:
-            return count
-        while step:
-            line, v = step
-            holder[v] = line
-            step = came[line]
+        if not steps:
+            break
+        holder.update((v, line) for line, v in steps)
     return count
 
 
@@ -109,7 +94,7 @@ def anywhere(draw: random.Random, count: int, points: int) -> Lines:
     return [sorted(draw.sample(range(points), LONG)) for _ in range(count)]
 
 
-def short_at_last(draw: random.Random, count: int, width: int) -> Lines:
+def short(draw: random.Random, count: int, width: int) -> Lines:
     """Lines of which all but the last have pairs, and those hold all points of the last."""
     inside = 2 * (count - 1)
     return near(draw, count - 1, width, inside) + anywhere(draw, 1, inside)
@@ -136,9 +121,8 @@ def families() -> list[tuple[str, Lines]]:
     """The four worst families, by name: the worst of each kind, and one made harder."""
     draw, kinds = random.Random(1963), collections.defaultdict(list)
     for count in (60, 90, 120):
-        for width, (name, make) in itertools.product(
-                (5, 7, 10, 20, 60), (("near", near), ("short", short_at_last))):
-            kinds[f"{name} {width}"] += [make(draw, count, width) for _ in range(20)]
+        for width, make in itertools.product((5, 7, 10, 20, 60), (near, short)):
+            kinds[f"{make.__name__} {width}"] += [make(draw, count, width) for _ in range(20)]
         for points in (2 * count, POINTS):
             kinds[f"{count} on {points}"] = [anywhere(draw, count, points) for _ in range(20)]
     worst = {kind: max(tries, key=passes) for kind, tries in kinds.items()}
@@ -148,7 +132,10 @@ def families() -> list[tuple[str, Lines]]:
 
 
 def match(program: str) -> None:
-    """Measures searches for private pairs."""
+    """Measures the search for private pairs on 256 points with 60 to 120 lines of ten points, near
+    their own pair of points, far from it, anywhere, or short at the last line. Of each kind the one
+    is taken for which a matcher of this script goes over the most points; the worst of all is then
+    made harder by small changes."""
     table = kit.Table("family", "lines", "points gone over", "pairs", f"instructions, {ASKS} asks",
                       "hits", "cached")
     for kind, lines in families():

@@ -8,15 +8,17 @@ posgame_draw. Unproved.
 from __future__ import annotations
 
 import pathlib
+import re
 import xml.etree.ElementTree as ElementTree
 
 import kit
 
+ROW = re.compile(r"(.*?): ?(.*?)(?: ?!(\d))?$")
 BYTES = 2_000_000
 SPACE = "{http://www.w3.org/2000/svg}"
 TAGS = {"title", "style", "rect", "circle", "line", "path", "text"}
 # Attributes that are places across, and down.
-ENDS = {**dict.fromkeys(("x", "cx", "x1", "x2"), 0), **dict.fromkeys(("y", "cy", "y1", "y2"), 1)}
+ENDS = {"x": 0, "cx": 0, "x1": 0, "x2": 0, "y": 1, "cy": 1, "y1": 1, "y2": 1}
 LARGE = ["lines.game", "ring.game", "lines.game lines.cert", "ring.game lines.cert", "graph.game",
          "graph.game graph.cert", "span.game", "span.game trees.cert", "span.game parts.cert"]
 
@@ -58,38 +60,31 @@ def large_files() -> dict[str, str]:
     }
 
 
-def small(program: str, row: str, out: pathlib.Path) -> list[str]:
+def small(program: str, out: pathlib.Path, name: str, words: str, status: str) -> list[str]:
     """Writes the picture of an example; returns what is wrong with it."""
-    row, _, status = row.partition(" !")
-    name, _, words = row.partition(": ")
-    game, *others = words.split()
-    others[:1] = [f"{it}.cert" for it in others[:1]]
-    done = kit.run(program, f"{game}.game", *others, folder=kit.EXAMPLES)
+    done = kit.run(program, *words.split(), folder=kit.EXAMPLES)
     (out / f"{name}.svg").write_text(done.output, encoding="utf-8")
     faults = [] if done.status == int(status or 0) else [f"status {done.status}, not {status}"]
     return [f"{name}: {it}" for it in faults + faults_of(done.output)]
 
 
-def refused(program: str, row: str) -> list[str]:
+def refused(program: str, words: str, text: str, status: str) -> list[str]:
     """Runs arguments without a picture; returns what is wrong with the answer."""
-    row, _, status = row.partition("!")
-    words, _, text = row.partition(":")
     done = kit.run(program, *words.split(), folder=kit.EXAMPLES)
-    found = done.output.strip(), done.status
-    return [] if found == (text.strip(), int(status)) else [f"{words or 'no words'}: {found!r:.80}"]
+    found = done.said, done.status
+    return [] if found == (text, int(status)) else [f"{words or 'no words'}: {found!r:.80}"]
 
 
 def main() -> int:
     out = kit.TOP / "docs" / "pictures", "the folder of the pictures"
     given = kit.options(__doc__, "posgame_draw", out=out)
     given.out.mkdir(parents=True, exist_ok=True)
-    drawn, others = kit.stanzas("pictures.txt")
-    wrong = [small(given.program, row, given.out) for row in drawn]
-    wrong += [refused(given.program, row) for row in others]
+    drawn, others = ([ROW.findall(it)[0] for it in rows] for rows in kit.stanzas("pictures.txt"))
+    wrong = [small(given.program, given.out, *row) for row in drawn]
+    wrong += [refused(given.program, *row) for row in others]
     print(f"{len(drawn)} pictures of examples and {len(others)} refusals: "
           f"{sum(map(bool, wrong))} not as expected\n")
-    table = kit.Table("picture", kit.Column("bytes", limit=BYTES), kit.Column("s", ".3f", 0.1),
-                      "status")
+    table = kit.Table("picture", ("bytes", ",", BYTES), ("s", ".3f", 0.1), "status")
     table.wrong += sum(wrong, [])
     with kit.files(**large_files()) as folder:
         for row in LARGE:

@@ -1,4 +1,4 @@
-"""Tries ./prove over a stand-in for the kit, in a checkout of six crates.
+"""Tries ./prove over a stand-in for the kit, in a checkout of seven crates.
 
 A crate of the stand-in is proved in a fifth of a second, by two lines in the file `calls`: one as
 it begins and one as it ends. bench/first_minutes.py calls `row`. Nothing here is proved.
@@ -19,10 +19,11 @@ one: low
 two: low one
 posgame: two
 posgame_draw: low
+posgame_settle: two
 test_more: posgame
 """
-PROVED = {"low", "one", "two", "posgame", "posgame_draw"}
-LINE = r"prove: \d of 5 crates, \d+ min: (\w+) proved \(\d+ s\)"
+PROVED = {"low", "one", "two", "posgame", "posgame_draw", "posgame_settle"}
+LINE = r"prove: \d of 6 crates, \d+ min: (\w+) proved \(\d+ s\)"
 LOGGED = r"^\d{4}-\d\d-\d\d \d\d:\d\d:\d\d (\w+) proved \d+ s$"
 RTLIB = '''
 import fcntl, os, shutil, sys, time
@@ -203,7 +204,8 @@ def two_at_once(there: Checkout) -> list[str]:
         it.communicate(timeout=120)
     problems = wrong("two runs", [it.returncode for it in runs], [0, 0])
     calls = [it for it in there.calls() if it.startswith("begins")]
-    problems += wrong("crates of two runs", sorted(calls), ["begins posgame", "begins two"])
+    due = ["begins posgame", "begins posgame_settle", "begins two"]
+    problems += wrong("crates of two runs", sorted(calls), due)
     return problems + wrong("the new program", "two: mended" in there.program(), True)
 
 

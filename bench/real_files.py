@@ -1,16 +1,15 @@
 #!/usr/bin/env python3
 """Runs posgame on files, names and consoles of the system that fail or vanish, and kills it while
-it writes. It shares nothing with the crates.
+it writes. It shares nothing with the crates. Unproved.
 
     bench/real_files.py [PROGRAM] [--kills N] [--races N] [--pairs N] [--seed N]
 
 Each row, of bench/real_files.txt or of a function here, says what is in a folder of its own, the
-arguments, and how it must end: the status, what is printed, and what files contain then.
-Nothing may be on standard error, and no run may take more than twenty seconds. Files without
-permission are tried as nobody, if it is run as root; full disks and mounted files, if there is
-permission to mount. A link that is swapped all the time must harm no file, two runs at once must
-leave a game and a certificate that fit, and runs that are killed must leave the old bytes or the
-new ones, whole. Unproved.
+arguments, and how it must end: the status, what is printed, and what files contain then. Nothing
+may be on standard error, and no run may take more than twenty seconds. Files without permission are
+tried as nobody, if it is run as root; full disks and mounted files, if there is permission to
+mount. A link that is swapped all the time must harm no file, two runs at once must leave a game and
+a certificate that fit, and runs that are killed must leave the old bytes or the new ones, whole.
 """
 from __future__ import annotations
 
@@ -39,7 +38,7 @@ GAME = kit.game("maker-breaker", "points 6", *kit.line_rows([(0, 1), (2, 3), (4,
 PAIRS = kit.certificate(kit.claim("x y win", "||x|pairs 0-1 2-3 4-5\n"))
 OLD, RESULT = "old\n", "result breaker\n"
 TEXTS: dict[str, Any] = {
-    "GAME": GAME, "PAIRS": PAIRS, "OLD": OLD, "RESULT": RESULT, "ACCEPTED": "accepted x y win\n",
+    "PAIRS": PAIRS, "OLD": OLD, "RESULT": RESULT, "ACCEPTED": "accepted x y win\n",
     "POTENTIAL": kit.certificate(kit.claim("x y win", "||x|potential\n")),
     "MADE": f"game 16 points 10 lines\n{RESULT}expanded 0 nodes 1\n",
     "RECORD": "posgame-record 1\n", "nothing": None, "PAIRS RESULT": PAIRS + RESULT,

@@ -24,14 +24,22 @@ import time
 from typing import Callable, Mapping, Optional, Sequence, Union
 
 TOP = pathlib.Path(__file__).resolve().parent.parent
-PAGES = ("posgame.1", "posgame-draw.1", "posgame.5")
+PAGES = ("posgame.1", "posgame-draw.1", "posgame-settle.1", "posgame.5")
 SCRIPTS = ("install", "package", "completions/posgame.bash")
-STARTERS = ("posgame", "posgame-draw", "posgame-why", "launch/posgame", "launch/posgame-draw")
+STARTERS = (
+    "posgame",
+    "posgame-draw",
+    "posgame-settle",
+    "posgame-why",
+    "launch/posgame",
+    "launch/posgame-draw",
+    "launch/posgame-settle",
+)
 APACHE = "cfc7749b96f63bd31c3c42b5c471bf756814053e847c10f3eb003417bc523d30"
 BARE = {"PATH": "/usr/bin:/bin"}
 EPOCH = "1700000000"
-CHANGED = r"^## \S+ \((\d{4}-\d\d-\d\d)\)$"
-PROGRAMS = {"posgame": "posgame", "posgame_draw": "posgame-draw"}
+CHANGED = r"^## (\S+) \((unreleased|\d{4}-\d\d-\d\d)\)$"
+PROGRAMS = ("posgame", "posgame_draw", "posgame_settle")
 SECTIONS = (
     "Three minutes",
     "What it decides",
@@ -105,11 +113,13 @@ def first_group(pattern: str, text: str) -> str:
 
 
 def versions(_: pathlib.Path) -> list[str]:
-    """Compares the version, and its date, everywhere with VERSION and CHANGELOG.md."""
-    version, changes = text_of("VERSION").strip(), text_of("CHANGELOG.md")
-    citation, date = text_of("CITATION.cff"), first_group(CHANGED, changes)
+    """Compares the version, and its date, everywhere with VERSION and CHANGELOG.md, whose first
+    section may be that of a version that isn't released yet."""
+    version, citation = text_of("VERSION").strip(), text_of("CITATION.cff")
+    changes = re.findall(CHANGED, text_of("CHANGELOG.md"), re.MULTILINE)
+    last, date = changes[changes[0][1] == "unreleased"]
     problems = [] if re.fullmatch(r"\d+\.\d+\.\d+", version) else [f"VERSION is {version!r}"]
-    problems += differs("CHANGELOG.md", first_group(r"^## (\S+) ", changes), version)
+    problems += differs("CHANGELOG.md", last, version)
     problems += differs("CITATION.cff", first_group(r"^version: (\S+)$", citation), version)
     problems += differs("CITATION.cff", first_group(r'^date-released: "(.*)"$', citation), date)
     moment = time.strptime(date, "%Y-%m-%d")
@@ -207,6 +217,9 @@ def manual(_: pathlib.Path) -> list[str]:
     problems += differs(
         "calls of posgame-draw.1", synopsis("posgame-draw.1"), ["posgame-draw GAME [CERT [NODE]]"]
     )
+    settling = re.findall(r"^    (posgame-settle .*)$", text_of("docs/FORMATS.md"), re.MULTILINE)
+    problems += [] if settling else ["docs/FORMATS.md shows no call of posgame-settle"]
+    problems += differs("calls of posgame-settle.1", synopsis("posgame-settle.1"), settling)
     blocks = re.findall(r"\.Bd -literal.*\n(posgame[^.]*)\.Ed\n", text_of("man/posgame.5"))
     for name, block in zip(("noughts-and-crosses.game", "breaker-in-the-centre.cert"), blocks):
         problems += differs(name, text_of(f"examples/{name}"), block)
@@ -255,6 +268,12 @@ COMPLETIONS = (
     ("posgame check wheel.game x.cert ", ""),
     ("posgame-draw tippy-c", "tippy-corner.game"),
     ("posgame-draw wheel.game tippy-by", "tippy-by-its-corner.cert"),
+    ("posgame-settle tippy-c", "tippy-corner.game"),
+    ("posgame-settle --nodes 50 wheel.game tippy-by", "tippy-by-its-corner.cert"),
+    ("posgame-settle --entries = 9 wheel.game x.cert ", ""),
+    ("posgame-settle wheel.game x.cert --", "--entries --help --images --nodes --positions "
+     "--version"),
+    ("posgame-settle --positions ", ""),
 )
 
 
@@ -293,7 +312,8 @@ def scripts(_: pathlib.Path) -> list[str]:
 
 
 class Tree:
-    """A small tree with the files that are installed, and two crates below scripts for programs."""
+    """A small tree with the files that are installed, a crate below scripts for the programs, and
+    one of tests."""
 
     def __init__(self, folder: pathlib.Path) -> None:
         self.folder = folder
@@ -317,10 +337,10 @@ class Tree:
             (folder / it).symlink_to(TOP / it)
         listed = folder / "crates.txt"
         listed.write_text(
-            "# low\npg_low:\nposgame: pg_low\nposgame_draw: pg_low\ntest_low: pg_low\n"
+            "# low\npg_low:\n" + "".join(f"{it}: pg_low\n" for it in (*PROGRAMS, "test_low"))
         )
         os.utime(listed, (1000, 1000))
-        for crate in ("pg_low", "posgame", "posgame_draw", "test_low"):
+        for crate in ("pg_low", *PROGRAMS, "test_low"):
             (folder / "crates" / crate / "src").mkdir(parents=True)
             self.touch(crate, 1000)
 
@@ -331,7 +351,7 @@ class Tree:
         os.utime(source, (moment, moment))
 
     def build(self, moment: int) -> None:
-        """Makes both programs, as of this moment."""
+        """Makes the programs, as of this moment."""
         for crate in PROGRAMS:
             program = self.folder / "crates" / crate / "out" / crate
             program.parent.mkdir(exist_ok=True)
@@ -427,7 +447,7 @@ def same_packages(top: pathlib.Path) -> list[str]:
 
 
 def copied_tree(folder: pathlib.Path) -> None:
-    """Copies the checkout with both programs, and without what is not committed."""
+    """Copies the checkout with the programs, and without what is not committed."""
     listed = run(["git", "-C", TOP, "ls-files", "-z"]).stdout.split("\0")[:-1]
     for name in [*listed, *(f"crates/{it}/out/{it}" for it in PROGRAMS)]:
         (folder / name).parent.mkdir(parents=True, exist_ok=True)
@@ -461,6 +481,9 @@ def serves(prefix: pathlib.Path, folder: pathlib.Path) -> list[str]:
         (["posgame", "check", game, "missing.cert"], "", 5),
         (["posgame", "nothing"], "words: no meaning\n", 2),
         (["posgame-draw", game, cert], picture, 0),
+        (["posgame-settle", game, "settled.cert"], "class first-mover\n", 0),
+        (["posgame", "check", game, "settled.cert"], both, 0),
+        (["posgame-settle", "missing.game", "settled.cert"], "", 5),
     )
     problems = []
     for words, said, status in rows:
@@ -474,7 +497,7 @@ def serves(prefix: pathlib.Path, folder: pathlib.Path) -> list[str]:
 def shown(prefix: pathlib.Path, folder: pathlib.Path) -> list[str]:
     """Runs the commands that README.md and posgame(1) show, and compares what they print."""
     folder.mkdir()
-    for name in ("posgame", "posgame-draw", "posgame-why"):
+    for name in ("posgame", "posgame-draw", "posgame-settle", "posgame-why"):
         (folder / name).symlink_to(prefix / "bin" / name)
     (folder / "examples").symlink_to(prefix / "share/doc/posgame/examples")
     page = text_of("man/posgame.1").replace("\n.Dl ", "\n")

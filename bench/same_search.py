@@ -23,13 +23,14 @@ import kit
 KINDS = ("maker-breaker", "maker-maker", "avoider-enforcer")
 
 
-def random_game(draws: kit.Draws) -> str:
-    """Draws a game of 4 to 15 points with 1 to 24 lines, some of it with marks.
+def random_game(draws: kit.Draws, kind: str = "", most: int = 15) -> str:
+    """Draws a game of 4 to `most` points with 1 to 24 lines, some of them with marks; its kind too,
+    unless it is given.
 
     >>> print(random_game(kit.Draws(1)).splitlines()[:2])
     ['posgame 1', 'kind avoider-enforcer']
     """
-    kind, points = KINDS[draws.below(3)], 4 + draws.below(12)
+    kind, points = kind or KINDS[draws.below(3)], 4 + draws.below(most - 3)
     bias = 1 + draws.below(3) * draws.below(2) * (kind != "maker-maker")
     size = 2 + draws.below(min(4, points - 2))
     lines = kit.scatter(draws.below(2**20), points, 1 + draws.below(24), size)

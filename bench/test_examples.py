@@ -8,13 +8,14 @@ import unittest
 import checked
 import lay_out
 import same_search
+import settling
 import theorem
 import width
 
 
 def load_tests(_: unittest.TestLoader, tests: unittest.TestSuite, __: object) -> unittest.TestSuite:
     """Adds the examples of each script."""
-    for script in checked, lay_out, same_search, theorem, width:
+    for script in checked, lay_out, same_search, settling, theorem, width:
         tests.addTests(doctest.DocTestSuite(script))
     return tests
 

@@ -213,14 +213,16 @@ class Games(unittest.TestCase):
         self.assertTrue(game.attack(self.NONE, self.NONE, 1))
 
     def test_set_game(self) -> None:
-        lines = kit.in_row(3, 3, 3)
-        wins = kit.set_game(9, lambda points: any(kit.bits(it) & ~points == 0 for it in lines))
-        self.assertTrue(wins(0, 0, True))
-        self.assertFalse(wins(0, kit.bits([4]), True))
+        lines = [frozenset(it) for it in kit.in_row(3, 3, 3)]
+        wins = kit.set_game(9, lambda points: any(it <= points for it in lines))
+        self.assertTrue(wins(self.NONE, self.NONE, True))
+        self.assertFalse(wins(self.NONE, frozenset([4]), True))
         game = kit.LineGame("maker-breaker", 9, lines)
         for x, y in itertools.islice(kit.marked(9), 0, 19683, 97):
-            due = game.value(x, y, "x") == 1
-            self.assertEqual(wins(kit.bits(x), kit.bits(y), True), due)
+            self.assertEqual(wins(x, y, True), game.value(x, y, "x") == 1)
+
+    def test_bits(self) -> None:
+        self.assertEqual((kit.bits([]), kit.bits([3, 0])), (0, 9))
 
 
 if __name__ == "__main__":

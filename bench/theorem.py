@@ -1,5 +1,5 @@
 #!/usr/bin/env python3
-"""Writes docs/DEFINED.md, the definitions that the four theorems of docs/THEOREM.md speak of, as
+"""Writes docs/DEFINED.md, the definitions that the theorems of docs/THEOREM.md speak of, as
 they stand in crates/*/specs; and looks up in the sources each name by which docs/THEOREM.md says
 where something is proved.
 
@@ -9,6 +9,8 @@ where something is proved.
 
 Its examples are tried by `bench/test_examples.py`. Nothing is proved of this script.
 """
+from __future__ import annotations
+
 import itertools
 import re
 import sys
@@ -62,7 +64,7 @@ QUOTES = [
 
 HEAD = """# The words of the theorems
 
-These are the definitions of which the four theorems of [THEOREM.md](THEOREM.md) speak, as they
+These are the definitions of which the theorems of [THEOREM.md](THEOREM.md) speak, as they
 stand in `crates/*/specs`. `bench/theorem.py` writes this page and `.ci/run` compares it with the
 sources. A remark (`--`) says what the definition below it means; long lines are cut.
 

@@ -1,7 +1,7 @@
 #!/usr/bin/env python3
 """Runs the lessons of docs/tutorial again, and compares what they show with what happens.
 
-    bench/tutorial.py [PROGRAM] [--draw PROGRAM] [--lesson NUMBER]..
+    bench/tutorial.py [PROGRAM] [--draw PROGRAM] [--settle PROGRAM] [--lesson NUMBER]..
 
 Each lesson runs in a folder of its own, which contains nothing but a link to examples/. Of the
 indented blocks of a lesson:
@@ -12,6 +12,7 @@ indented blocks of a lesson:
 - "$ ./posgame ARGUMENTS" is run; a backslash at the end continues the line. Of the lines below it,
   those that begin like a text of the program must be its output, in order. The others are its
   input. The line that `report` prints may be broken;
+- "$ ./posgame-settle ARGUMENTS" is run in the same way;
 - "$ echo $?" must print the exit status of the run before it;
 - "$ ./posgame-draw ARGUMENTS > FILE" is run if --draw names that program. If an image follows
   the block, FILE must equal it, to the byte.
@@ -44,8 +45,9 @@ ENTRY = re.compile(r"^(\d+)\. \[([^]]+)\]\(tutorial/([^)]+)\)", re.MULTILINE)
 class Walk:
     """A lesson that is run in a folder with the programs, and what was found in it."""
 
-    def __init__(self, program: str, draw: Optional[str], folder: pathlib.Path) -> None:
-        self.program, self.picture, self.folder = program, draw, folder
+    def __init__(self, programs: dict[str, str], draw: Optional[str],
+                 folder: pathlib.Path) -> None:
+        self.programs, self.picture, self.folder = programs, draw, folder
         self.status = self.shown = self.not_drawn = 0
         self.problems: list[str] = []
 
@@ -55,12 +57,13 @@ class Walk:
         self.problems += [] if is_same else [f"differs: {what}"]
 
     def run(self, command: str, below: list[str]) -> None:
-        """Runs posgame with the lines that are not its texts as input, and compares the others."""
-        words = shlex.split(command)[1:]
+        """Runs posgame or posgame-settle with the lines that are not its texts as input, and
+        compares the others."""
+        name, *words = shlex.split(command)
         below = ["".join(below)] if words[0] == "report" else below
         expected = [line for line in below if line.startswith(TEXTS)]
         typed = "".join(f"{line}\n" for line in below if not line.startswith(TEXTS))
-        ended = kit.call(self.program, *words, cwd=self.folder, input=typed)
+        ended = kit.call(self.programs[name], *words, cwd=self.folder, input=typed)
         self.status = ended.returncode
         self.compare(command, ended.stdout.splitlines() == expected)
 
@@ -81,7 +84,7 @@ class Walk:
         """Runs the commands of a block."""
         for part in re.split(r"^\$ ", re.sub(r" \\\n +", " ", text), flags=re.MULTILINE)[1:]:
             command, *below = part.splitlines()
-            if command.startswith("./posgame "):
+            if command.split()[0] in self.programs:
                 self.run(command, below)
             elif command.startswith("./posgame-draw "):
                 self.draw(command, image)
@@ -130,16 +133,19 @@ def main() -> int:
     words = kit.parser(__doc__)
     words.set_defaults(program=str(kit.TOP / "posgame"))
     words.add_argument("--draw", type=kit.program_path, metavar="PROGRAM", help="posgame-draw")
+    words.add_argument("--settle", type=kit.program_path, metavar="PROGRAM", help="posgame-settle",
+                       default=str(kit.TOP / "posgame-settle"))
     words.add_argument("--lesson", type=int, action="append", help="only lessons of this number")
     given = words.parse_args()
     paths = sorted(LESSONS.glob("*.md"))
     form = [it for path in [CONTENTS, *paths] for it in form_problems(path)]
     form += contents_problems(paths)
     chosen = [it for it in paths if not given.lesson or int(it.name[:2]) in given.lesson]
+    programs = {"./posgame": given.program, "./posgame-settle": given.settle}
     walks = []
     for path in chosen:
         with kit.files() as folder:
-            walks.append(Walk(given.program, given.draw, folder))
+            walks.append(Walk(programs, given.draw, folder))
             (folder / "examples").symlink_to(kit.EXAMPLES)
             for block in BLOCK.findall(path.read_text(encoding="utf-8")):
                 walks[-1].try_block(*block)

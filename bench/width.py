@@ -5,10 +5,9 @@
     bench/width.py --only docs scripts  these kinds only
 
 A line has at most 100 characters, and a row of a table of Markdown 120. Not counted are imports of
-a name that is too wide alone, and attributes, which `rt fmt` keeps in one line. A function of a
-crate has at most seven clauses, `requires` and `ensures` together, except in three crates
-(`HANDED_ON`). The status is 1 if there is more. The files are those that git knows, or would take.
-For a line of a source it also says what to do.
+a name that is too wide alone. A function of a crate has at most seven clauses, `requires` and
+`ensures` together, except in three crates (`HANDED_ON`). The status is 1 if there is more. The
+files are those that git knows, or would take. For a line of a source it also says what to do.
 
 Its examples are tried by `bench/test_examples.py`. Nothing is proved of this script.
 """
@@ -77,7 +76,7 @@ def limit(kind: str, line: str) -> int | None:
     >>> limit("sources", "use Rattle.a.{b, c}"), limit("sources", "use Rattle.a.{%s}" % ("b" * 99))
     (100, None)
     >>> limit("sources", "#[tactic(auto)]"), limit("sources", "pub use a::b;")
-    (None, 100)
+    (100, 100)
     """
     if kind == "docs" and line.startswith("|"):
         return TABLE_COLUMNS
@@ -85,8 +84,6 @@ def limit(kind: str, line: str) -> int | None:
     if kind == "sources" and names:
         widest = max(map(len, names[2].split(", ")))
         return COLUMNS if len(names[1]) + widest < COLUMNS else None
-    if kind == "sources" and re.match(r"\s*#\[", line):
-        return None
     if kind == "examples" and not line.startswith("#"):
         return None
     return COLUMNS
