@@ -20,5 +20,6 @@ pub use known::Known;
 pub use laws::losses_are_told;
 pub use losses::is_worse;
 pub use opening::SEVERAL_A_TURN;
+pub use playing::stand_at;
 pub use recording::record;
 pub use request::Request;

@@ -14,7 +14,7 @@ use pg_pns::Work;
 use std::alloc::Global;
 
 /// Gives the game the marks and the turn of a position.
-fn stand_at(game: &mut Game, position: &Position)
+pub fn stand_at(game: &mut Game, position: &Position)
     requires { IsPosition game.old position.now }
     ensures { IsGameAt game.old position.now game.new }
 {
