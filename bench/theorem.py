@@ -65,8 +65,8 @@ QUOTES = [
 HEAD = """# The words of the theorems
 
 These are the definitions of which the theorems of [THEOREM.md](THEOREM.md) speak, as they
-stand in `crates/*/specs`. `bench/theorem.py` writes this page and `.ci/run` compares it with the
-sources. A remark (`--`) says what the definition below it means; long lines are cut.
+are in `crates/*/specs`. `bench/theorem.py` writes this page and `.ci/run` compares it with the
+sources. A comment (`--`) says what the definition below it means; long lines are cut.
 
 How to read them: `f : A → B → C` says that `f` takes an `A` and a `B` and gives a `C`, and the
 lines below it define `f` by cases. `ℕ` are the numbers from 0, `suc n` is `n + 1`, `[]` is the

@@ -13,7 +13,8 @@ use pg_game::{Game, Position};
 use pg_pns::Work;
 use std::alloc::Global;
 
-/// Gives the game the marks and the turn of a position.
+/// Sets the marks and the turn of the game to those of the position. What is left of a turn isn't
+/// kept: the game begins with a whole turn.
 pub fn stand_at(game: &mut Game, position: &Position)
     requires { IsPosition game.old position.now }
     ensures { IsGameAt game.old position.now game.new }
