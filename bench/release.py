@@ -271,8 +271,8 @@ COMPLETIONS = (
     ("posgame-settle tippy-c", "tippy-corner.game"),
     ("posgame-settle --nodes 50 wheel.game tippy-by", "tippy-by-its-corner.cert"),
     ("posgame-settle --entries = 9 wheel.game x.cert ", ""),
-    ("posgame-settle wheel.game x.cert --", "--entries --help --images --nodes --positions "
-     "--version"),
+    ("posgame-settle wheel.game x.cert --", "--entries --help --images --json --nodes "
+     "--positions --version"),
     ("posgame-settle --positions ", ""),
 )
 

@@ -11,7 +11,7 @@ indented blocks of a lesson:
   certificate or a record;
 - "$ ./posgame ARGUMENTS" is run; a backslash at the end continues the line. Of the lines below it,
   those that begin like a text of the program must be its output, in order. The others are its
-  input. The line that `report` prints may be broken;
+  input. A line of JSON (of `report` and `--json`) may be broken;
 - "$ ./posgame-settle ARGUMENTS" is run in the same way;
 - "$ echo $?" must print the exit status of the run before it;
 - "$ ./posgame-draw ARGUMENTS > FILE" is run if --draw names that program. If an image follows
@@ -60,7 +60,7 @@ class Walk:
         """Runs posgame or posgame-settle with the lines that are not its texts as input, and
         compares the others."""
         name, *words = shlex.split(command)
-        below = ["".join(below)] if words[0] == "report" else below
+        below = ["".join(below)] if words[0] == "report" or "--json" in words else below
         expected = [line for line in below if line.startswith(TEXTS)]
         typed = "".join(f"{line}\n" for line in below if not line.startswith(TEXTS))
         ended = kit.call(self.programs[name], *words, cwd=self.folder, input=typed)

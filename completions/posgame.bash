@@ -96,7 +96,7 @@ _posgame_settle() {
     if [ -n "$pending" ]; then
         :
     elif [[ $current == -* ]]; then
-        _posgame_words '--positions --entries --nodes --images --help --version' "$current"
+        _posgame_words '--positions --entries --nodes --images --json --help --version' "$current"
     elif ((place < 2)); then
         local -a endings=(game cert)
         _posgame_files "${endings[place]}" "$current"

@@ -11,21 +11,21 @@
 # tells.
 # shellcheck shell=bash disable=SC2034,SC2153 # run.bash shares its variables
 
-# Sets `POSITIONALS`, `SIDE` and `OPTIONS` (a row of the options' names) by the words from the
-# second on; the first has the options with a value, with blanks around each. Fails where a word has
-# no meaning wherever it stands.
+# Sets `POSITIONALS`, `SIDE` and `OPTIONS` (a row of the options' names) by the words from the third
+# on; the first has the options with a value, the second those without, with blanks around each.
+# Fails where a word has no meaning wherever it stands.
 split_words() {
-    local valued=$1 name
-    shift
+    local valued=$1 flags=$2 name
+    shift 2
     POSITIONALS=() SIDE='' OPTIONS=''
     while (($#)); do
         name=${1%%=*}
         case $1 in
             --) POSITIONALS+=("${@:2}") && return ;;
-            --images) OPTIONS+=' --images' ;;
             --*)
-                [[ $valued == *" $name "* ]] || return
                 OPTIONS+=" $name"
+                [[ $1 == "$name" && $flags == *" $name "* ]] && shift && continue
+                [[ $valued == *" $name "* ]] || return
                 if [[ $1 == "$name" ]]; then
                     [[ $# -gt 1 && $2 != -* ]] || return
                     shift
@@ -51,7 +51,7 @@ read_draw_words() {
 # Sets what `read_words` sets, for posgame-settle, whose words are two names and options.
 read_settle_words() {
     COMMAND='' FAMILY='' GAME='' OTHER=''
-    split_words ' --positions --entries --nodes ' "$@" || return 0
+    split_words ' --positions --entries --nodes ' ' --images --json ' "$@" || return 0
     ((${#POSITIONALS[@]} == 2)) || return 0
     COMMAND=settle GAME=${POSITIONALS[0]} OTHER=${POSITIONALS[1]}
 }
@@ -61,7 +61,7 @@ read_settle_words() {
 read_words() {
     local at=1 count
     COMMAND='' FAMILY='' GAME='' OTHER=''
-    split_words ' --positions --side ' "$@" || return 0
+    split_words ' --positions --side ' ' --images ' "$@" || return 0
     case ${POSITIONALS[0]-} in
         span | vec) FAMILY=${POSITIONALS[0]} at=2 ;;
     esac

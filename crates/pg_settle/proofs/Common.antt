@@ -6,10 +6,10 @@ pub use Rattle.pg_settle.specs.Prelude.{Game, Gives, Goal, Halt, HaveDifferentPo
 pub use Rattle.pg_settle.specs.Prelude.{IsFileOf, IsSaidBy, IsValid, IsWithinLimits, Kind}
 pub use Rattle.pg_settle.specs.Prelude.{MAX_NODES, Refused}
 pub use Rattle.pg_settle.specs.Prelude.{Said, SaysGame, Score, Shows, Side, Starved, UNKNOWN, X, Y}
-pub use Rattle.pg_settle.specs.Prelude.{class_text, draws, due_for_value, ending, expanded_text}
+pub use Rattle.pg_settle.specs.Prelude.{draws, due_for_value, ending, expanded_text}
 pub use Rattle.pg_settle.specs.Prelude.{game_held, heading, message_text, node_count}
 pub use Rattle.pg_settle.specs.Prelude.{printed_certificate, result_text}
-pub use Rattle.pg_settle.specs.Prelude.{start, unknown_text, value}
+pub use Rattle.pg_settle.specs.Prelude.{start, value}
 pub use Rattle.pg_settle.specs.Prelude.{wins}
 pub use Rattle.pg_base.specs.declared.score.Score.TheVariants.{Draw, XWins, YWins}
 pub use Rattle.pg_cert.specs.Node.{position_of}

@@ -1,5 +1,7 @@
 pub mod Prelude
 pub mod Budgets
 pub mod Findings
+pub mod JsonLines
+pub mod Outputs
 pub mod Settling
 pub mod Runs

@@ -6,7 +6,8 @@ use Rattle.pg_settle.specs.Prelude.{End, Entry, FilesTold, Game, Halt, Holding, 
 use Rattle.pg_settle.specs.Prelude.{Refused, Runs, Said, SaysGame, Score, Solve, ending, game_held}
 use Rattle.pg_settle.specs.Prelude.{result_text, start, value}
 use Rattle.pg_files.specs.GameFile.{Entry as GameEntry}
-use Rattle.pg_settle.specs.Settling.{SettlesGame}
+use Rattle.pg_settle.specs.JsonLines.{json_line, value_data}
+use Rattle.pg_settle.specs.Settling.{Form, SettlesGame}
 use Rattle.pg_settle.specs.declared.budget.Budget.{Budget}
 use Rattle.pg_settle.specs.declared.finding.Outcome.{Outcome}
 
@@ -15,12 +16,12 @@ use Rattle.pg_settle.specs.declared.finding.Outcome.{Outcome}
 abbrev pub as_solve : Bytes → Bytes → Option Command
 as_solve game name = Some (Solve game name (Some 1) false)
 
-module _ (Brings : Game → Budget → Outcome → Type 0) (images : Bool) where
+module _ (Brings : Game → Budget → Outcome → Type 0) (form : Form) where
   -- what settling does, by the game that was read
   abbrev pub Settles : Result GameEntry Halt → Bytes → Budget → Done → End → Type 0
   Settles (Err halt) name budget done end = ⊥
   Settles (Ok e) name budget done end =
-      (g : Game) × IsSaidBy e g × SettlesGame Brings images g name budget done end
+      (g : Game) × IsSaidBy e g × SettlesGame Brings form g name budget done end
 
   -- the game is settled; or what stands against it was found, and nothing was said yet; or the run
   -- was stopped
@@ -52,12 +53,28 @@ module _ (Brings : Game → Budget → Outcome → Type 0) (images : Bool) where
 
 -- ---- what is announced
 
--- each score that is said is the value of the game that these bytes say
-abbrev pub SaysValue : Option Bytes → List Entry → Type 0
-SaysValue bytes entries = (kind : Kind) (score : Score)
+-- each score that is printed is the value of the game that these bytes say
+abbrev pub SaysScore : Option Bytes → List Entry → Type 0
+SaysScore bytes entries = (kind : Kind) (score : Score)
     → Contains entries (Said (result_text kind score))
     → (g : Game) × SaysGame bytes g
     × (result_text kind score ≡ result_text g.kind (value g (start g)))
+
+-- the text is the line of JSON that says this score of the game
+abbrev pub IsLineOf : Game → Score → Bytes → Type 0
+IsLineOf g score text = (name : Bytes) × (nodes : ℕ) × (expanded : ℕ) × (size : ℕ)
+    × (text ≡ json_line (value_data name g score nodes expanded size))
+
+-- each line of JSON that says a score of any game says the value of the game that these bytes say
+abbrev pub SaysLine : Option Bytes → List Entry → Type 0
+SaysLine bytes entries = (h : Game) (score : Score) (text : Bytes) → IsLineOf h score text
+    → Contains entries (Said text)
+    → (g : Game) × SaysGame bytes g × IsLineOf g (value g (start g)) text
+
+-- what is printed of scores is true, in either form
+pub record SaysValue (bytes : Option Bytes) (entries : List Entry) : Type 0 where
+  pub score : SaysScore bytes entries
+  pub line : SaysLine bytes entries
 
 -- of all that a run has said, where it is told what the names hold and what was said
 abbrev pub AnnouncesValue : Option Holding → Bytes → Option (List Entry) → Option (List Entry)

@@ -19,7 +19,8 @@ pub trait Finder {
     ghost brings: { Self → Game → Budget → Outcome → Type 0 } = { λ _ _ _ _. ⊤ };
 
     /// Looks for a certificate of a game on lines. One that comes is within the limits of the
-    /// format, so that it can be stored, and no more positions are expanded than may be.
+    /// format, so that it can be stored, and no more positions are expanded than may be. Whatever
+    /// it may bring later, it might have brought now.
     ///
     /// # Errors
     ///
@@ -28,5 +29,8 @@ pub trait Finder {
         requires { IsBudget budget }
         ensures brought { IfOk result (brings self.old game.now budget) }
         ensures writable { IfOk result (λ outcome. IsWritable outcome.finding) }
-        ensures few { IfOk result (λ outcome. outcome.expanded ≤ budget.positions) };
+        ensures few { IfOk result (λ outcome. outcome.expanded ≤ budget.positions) }
+        ensures same { (other : Game) → (allowed : Budget) → (later : Outcome)
+            → brings self.new other allowed later
+            → brings self.old other allowed later };
 }

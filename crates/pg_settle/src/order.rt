@@ -13,4 +13,6 @@ pub struct Order<'a> {
     /// Whether the certificate is to be folded: a node that is turned or reflected is said as the
     /// image of another.
     pub images: bool,
+    /// Whether the result is printed as one line of JSON.
+    pub json: bool,
 }

@@ -4,6 +4,7 @@ ghost use Rattle.pg_settle.specs.Prelude.{BothCauses, Contains, Ends, Gives, Has
 ghost use Rattle.pg_settle.specs.Prelude.{IsGameLacking, Quiets, Silences, StoresAt, statuses_of};
 ghost use Rattle.pg_settle.specs.Budgets.{IsBudget};
 ghost use Rattle.pg_settle.specs.Runs.{AnnouncesValue, Carries, Ran, as_solve};
+ghost use Rattle.pg_settle.specs.Settling.{form_of};
 
 use crate::finder::Finder;
 use crate::order::Order;
@@ -22,8 +23,9 @@ fn carry_out<F: Files, C: Console, S: Finder>(
     console: &mut C,
 ) -> Result<u8, Halt>
     requires { IsBudget order.budget }
-    ensures ran { Carries (S.brings finder.old) order.entry.images order.entry.game.now
-        order.entry.certificate.now order.entry.budget
+    ensures ran { Carries (S.brings finder.old)
+        (form_of order.entry.images order.entry.json order.entry.game.now)
+        order.entry.game.now order.entry.certificate.now order.entry.budget
         (F.told files.old) (F.told files.new) (C.told console.old) (C.told console.new) result }
     ensures causes { BothCauses (IsGameLacking (F.told files.old).held order.entry.game.now)
         (F.told files.old) (F.told files.new) (C.told console.old) (C.told console.new) result }
@@ -37,8 +39,8 @@ fn carry_out<F: Files, C: Console, S: Finder>(
     settle_game(alloc, &game, order, finder, files, console)
 }
 
-/// Says what stands against a run, where that ended it, and gives its status.
-fn end_early<C: Console>(console: &mut C, halt: Halt) -> u8
+/// Prints why a run is refused, if that ended it, and returns the exit status.
+pub fn end_early<C: Console>(console: &mut C, halt: Halt) -> u8
     ensures { Ends halt (C.told console.old) (C.told console.new) result }
 {
     match halt {
@@ -81,8 +83,9 @@ pub fn settle<F: Files, C: Console, S: Finder>(
     console: &mut C,
 ) -> u8
     requires { IsBudget order.budget }
-    ensures ran { Ran (S.brings finder.old) order.entry.images order.entry.game.now
-        order.entry.certificate.now order.entry.budget
+    ensures ran { Ran (S.brings finder.old)
+        (form_of order.entry.images order.entry.json order.entry.game.now)
+        order.entry.game.now order.entry.certificate.now order.entry.budget
         (F.told files.old) (F.told files.new) (C.told console.old) (C.told console.new) result }
     ensures forced { AnnouncesValue (F.told files.old).held order.entry.game.now
         (C.told console.old).log (C.told console.new).log }

@@ -1,36 +1,25 @@
 //! Settling a game that was read.
-ghost use Rattle.std.specs.Prelude.{◌≡◌, ◌≤◌, [], ◌∷◌, IfErr, IfOk};
-ghost use Rattle.pg_settle.specs.Prelude.{BothCauses, Does, IsWriteHalt, MAX_NODES, MuteAtMemory};
-ghost use Rattle.pg_settle.specs.Prelude.{StoresAt, node_count};
+ghost use Rattle.std.specs.Prelude.{[], ◌∷◌, IfErr, IfOk};
+ghost use Rattle.pg_settle.specs.Prelude.{BothCauses, Does, IsWriteHalt, MuteAtMemory, StoresAt};
 ghost use Rattle.pg_settle.specs.Budgets.{IsBudget};
-ghost use Rattle.pg_settle.specs.Settling.{IsSettleEnd, SettlesGame, SettlesLines};
+ghost use Rattle.pg_settle.specs.Settling.{IsSettleEnd, SettlesGame, SettlesLines, form_of};
 
 use crate::answering::answer;
+use crate::counting::node_count;
+use crate::delivering::deliver_output;
 use crate::filing::file_of;
 use crate::finder::Finder;
 use crate::finding::Finding;
 use crate::laws::shown_scores_are_values;
 use crate::order::Order;
+use crate::output::{open_text, score_output};
 use crate::switching::settle_switching;
 use pg_base::Kind;
-use pg_cert::Cert;
 use pg_game::Game;
 use pg_io::{Console, Files};
-use pg_messages::{Message, UNKNOWN};
-use pg_talk::{Halt, deliver, say};
+use pg_messages::UNKNOWN;
+use pg_talk::{Halt, say_text};
 use std::alloc::Global;
-
-/// How many nodes the claims of a certificate have together.
-fn node_count(certificate: &Cert) -> u32
-    requires { node_count certificate.now.claims ≤ MAX_NODES }
-    ensures { result ≡ node_count certificate.now.claims }
-{
-    let mut count = 0;
-    for claim in certificate.claims.as_slice() {
-        count += claim.nodes.as_slice().len() as u32;
-    }
-    count
-}
 
 /// Settles a game on lines: what the finder brings is judged, and only a certificate that shows its
 /// score is stored, and the score said after it, with how many positions were expanded and how many
@@ -45,7 +34,8 @@ fn settle_lines<F: Files, C: Console, S: Finder>(
 ) -> Result<u8, Halt>
     requires { IsBudget order.budget }
     ensures settled { Does
-        (SettlesLines (S.brings finder.old) order.entry.images game.now
+        (SettlesLines (S.brings finder.old)
+        (form_of order.entry.images order.entry.json order.entry.game.now) game.now
         order.entry.certificate.now order.entry.budget)
         (F.told files.old) (F.told files.new) (C.told console.old) (C.told console.new) result }
     ensures files { StoresAt (order.entry.certificate.now ∷ [])
@@ -62,24 +52,14 @@ fn settle_lines<F: Files, C: Console, S: Finder>(
     match &found.finding {
         Finding::Certificate { score, certificate } => {
             let text = file_of(alloc, game, certificate, order.images)?;
-            let kind = game.kind;
             let nodes = node_count(certificate);
-            let message = Message::Result {
-                kind,
-                score: *score,
-            };
-            let counts = Message::Expanded { positions, nodes };
-            deliver(
-                order.certificate,
-                &text,
-                message,
-                Some(counts),
-                files,
-                console,
-            )
+            let bytes = text.len();
+            let output = score_output(alloc, order, game, *score, nodes, positions, bytes)?;
+            deliver_output(order.certificate, &text, &output, files, console)
         }
         Finding::Open => {
-            say(console, Message::Unknown(positions))?;
+            let said = open_text(alloc, order, game, positions)?;
+            say_text(console, said.as_str())?;
             Ok(UNKNOWN)
         }
     }
@@ -96,7 +76,8 @@ pub(crate) fn settle_game<F: Files, C: Console, S: Finder>(
 ) -> Result<u8, Halt>
     requires { IsBudget order.budget }
     ensures settled { Does
-        (SettlesGame (S.brings finder.old) order.entry.images game.now
+        (SettlesGame (S.brings finder.old)
+        (form_of order.entry.images order.entry.json order.entry.game.now) game.now
         order.entry.certificate.now order.entry.budget)
         (F.told files.old) (F.told files.new) (C.told console.old) (C.told console.new) result }
     ensures files { StoresAt (order.entry.certificate.now ∷ [])

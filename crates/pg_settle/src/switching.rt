@@ -1,34 +1,30 @@
 //! Settling a switching game: its class, by two forests. No finder is asked.
 ghost use Rattle.std.specs.Prelude.{◌≡◌, [], ◌∷◌, IfErr, IfOk};
 ghost use Rattle.pg_settle.specs.Prelude.{BothCauses, DONE, Does, IsWriteHalt, MuteAtMemory};
-ghost use Rattle.pg_settle.specs.Prelude.{StoresAt, Switching, class_text, message_text};
-ghost use Rattle.pg_settle.specs.Settling.{SettlesSwitching, ShowsClass};
+ghost use Rattle.pg_settle.specs.Prelude.{StoresAt, Switching};
+ghost use Rattle.pg_settle.specs.Settling.{SettlesSwitching, ShowsClass, form_of};
 
+use crate::counting::node_count;
+use crate::delivering::deliver_output;
 use crate::filing::file_of;
 use crate::order::Order;
+use crate::output::class_output;
 use pg_base::Memory;
 use pg_cert::Cert;
 use pg_game::Game;
 use pg_io::{Console, Files};
-use pg_messages::Message;
 use pg_pns::Work;
 use pg_solve::{Class, MIN_POSITIONS, Solution, solve};
-use pg_talk::{Halt, deliver};
+use pg_talk::Halt;
 use std::alloc::Global;
 
-/// The message of a class.
-fn class_message(class: Class) -> Message
-    ensures { message_text result ≡ class_text class }
-{
-    match class {
-        Class::Short => Message::ClassShort,
-        Class::Cut => Message::ClassCut,
-        Class::First => Message::ClassFirstMover,
-    }
-}
-
-/// The class of a switching game, with the certificate that shows it.
-fn classified(alloc: Global, game: &Game) -> Result<(Class, Cert), Memory>
+/// Returns the class of a switching game, with the certificate that shows it: two claims of one
+/// node.
+///
+/// # Errors
+///
+/// `Memory` if an allocation failed.
+pub fn classified(alloc: Global, game: &Game) -> Result<(Class, Cert), Memory>
     requires { game.now.kind ≡ Switching }
     ensures { IfOk result (λ found. ShowsClass game.now found.0 found.1) }
 {
@@ -49,7 +45,9 @@ pub(crate) fn settle_switching<F: Files, C: Console>(
 ) -> Result<u8, Halt>
     requires { game.now.kind ≡ Switching }
     ensures settled { Does
-        (SettlesSwitching order.entry.images game.now order.entry.certificate.now)
+        (SettlesSwitching
+        (form_of order.entry.images order.entry.json order.entry.game.now)
+        game.now order.entry.certificate.now)
         (F.told files.old) (F.told files.new) (C.told console.old) (C.told console.new) result }
     ensures files { StoresAt (order.entry.certificate.now ∷ [])
         (F.told files.old) (F.told files.new) }
@@ -61,6 +59,8 @@ pub(crate) fn settle_switching<F: Files, C: Console>(
 {
     let found = classified(alloc, game)?;
     let text = file_of(alloc, game, &found.1, order.images)?;
-    let message = class_message(found.0);
-    deliver(order.certificate, &text, message, None, files, console)
+    let nodes = node_count(&found.1);
+    let bytes = text.len();
+    let output = class_output(alloc, order, game, found.0, nodes, bytes)?;
+    deliver_output(order.certificate, &text, &output, files, console)
 }

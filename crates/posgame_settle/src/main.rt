@@ -41,6 +41,7 @@ fn run(rt: &HostRuntime, asked: &Asked<'_>) -> u8 {
         certificate: asked.certificate,
         budget,
         images: asked.images,
+        json: asked.json,
     };
     let mut files = HostFiles::new(rt);
     let mut console = HostConsole::new(rt);

@@ -2,11 +2,8 @@
 use clap::builder::ValueParser;
 use clap::{Arg, ArgAction, Command, Error};
 use pg_cert::MAX_NODES;
-use pg_settle::{MAX_ENTRIES, MAX_EXPANDED, MIN_BUDGET};
+use pg_settle::{MAX_ENTRIES, MAX_EXPANDED, MIN_BUDGET, VERSION};
 use std::alloc::Global;
-
-/// The version that `--version` prints.
-pub(crate) const VERSION: &str = "1.0.0";
 
 /// The name that the program has in its messages.
 pub(crate) const NAME: &str = "posgame-settle";
@@ -26,6 +23,8 @@ pub(crate) struct Asked<'a> {
     pub(crate) nodes: Option<u32>,
     /// Whether the certificate is to be folded.
     pub(crate) images: bool,
+    /// Whether the result is printed as JSON.
+    pub(crate) json: bool,
 }
 
 /// Returns an option that takes a number from 1 to `most`.
@@ -74,13 +73,17 @@ fn command<'a>(alloc: Global) -> Result<Command<'a>, Error> {
         .long("images")
         .action(ArgAction::SetTrue)
         .help("Write nodes that are turned or reflected as images of others");
+    let json = Arg::new(alloc, "json")
+        .long("json")
+        .action(ArgAction::SetTrue)
+        .help("Print the result as one line of JSON");
     let command = Command::new(alloc, NAME)
         .no_binary_name(true)
         .version(VERSION)
         .about("Settles a positional game by a certificate that the proved checker accepts")
         .arg(game)?
         .arg(certificate)?;
-    let command = with_budget(alloc, command)?.arg(images)?;
+    let command = with_budget(alloc, command)?.arg(images)?.arg(json)?;
     Ok(command)
 }
 
@@ -95,5 +98,6 @@ pub(crate) fn read_words<'a>(alloc: Global, words: &'a [String]) -> Result<Asked
         entries: found.get_one::<u32>("entries"),
         nodes: found.get_one::<u32>("nodes"),
         images: found.get_flag("images"),
+        json: found.get_flag("json"),
     })
 }

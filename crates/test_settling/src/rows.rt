@@ -84,6 +84,7 @@ fn push_run(
         certificate: "C",
         budget,
         images: entry(row, "stored as ") == "images",
+        json: entry(row, "printed as ") == "json",
     };
     let mut finder = StandIn {
         score: score_of(row),

@@ -4,11 +4,12 @@ use Rattle.pg_talk.specs.Opening.{IsGameLacking}
 use Rattle.pg_settle.specs.Runs.{as_solve}
 use Rattle.pg_settle.proofs.Announced.{announced}
 use Rattle.pg_settle.proofs.Ending.{ran_done, ran_early}
+use Rattle.pg_settle.specs.Settling.{form_of}
 use Rattle.pg_settle.proofs.running.settle.Goals as goal
 
 pub returns-in-Ok-clause-ran : goal.returns-in-Ok-clause-ran
-returns-in-Ok-clause-ran g c =
-    ran_done (g.S.Finder.brings c.args.finder.now) c.args.order.images c.args.order.game.now
+returns-in-Ok-clause-ran g c = ran_done (g.S.Finder.brings c.args.finder.now)
+    (form_of c.args.order.images c.args.order.json c.args.order.game.now) c.args.order.game.now
     c.args.order.certificate.now c.args.order.budget (g.F.Files.told c.args.files.now)
     (g.F.Files.told c.carry_out.new.files) (g.C.Console.told c.args.console.now)
     (g.C.Console.told c.carry_out.new.console) c.in-Ok.status
@@ -16,12 +17,13 @@ returns-in-Ok-clause-ran g c =
     c.in-Ok.ensures.gives) c.in-Ok.ensures.ran
 
 pub returns-in-Ok-clause-forced : goal.returns-in-Ok-clause-forced
-returns-in-Ok-clause-forced g c =
-    announced (g.S.Finder.brings c.args.finder.now) c.args.order.images c.args.order.game.now
+returns-in-Ok-clause-forced g c = announced (g.S.Finder.brings c.args.finder.now)
+    (form_of c.args.order.images c.args.order.json c.args.order.game.now) c.args.order.game.now
     c.args.order.certificate.now c.args.order.budget (g.F.Files.told c.args.files.now)
     (g.F.Files.told c.carry_out.new.files) (g.C.Console.told c.args.console.now)
     (g.C.Console.told c.carry_out.new.console) c.in-Ok.status
-    (ran_done (g.S.Finder.brings c.args.finder.now) c.args.order.images c.args.order.game.now
+    (ran_done (g.S.Finder.brings c.args.finder.now)
+    (form_of c.args.order.images c.args.order.json c.args.order.game.now) c.args.order.game.now
     c.args.order.certificate.now c.args.order.budget (g.F.Files.told c.args.files.now)
     (g.F.Files.told c.carry_out.new.files) (g.C.Console.told c.args.console.now)
     (g.C.Console.told c.carry_out.new.console) c.in-Ok.status
@@ -48,20 +50,21 @@ returns-in-Ok-clause-causes g c =
     c.in-Ok.ensures.gives
 
 pub returns-in-Err-clause-ran : goal.returns-in-Err-clause-ran
-returns-in-Err-clause-ran g c =
-    ran_early (g.S.Finder.brings c.args.finder.now) c.args.order.images c.args.order.game.now
+returns-in-Err-clause-ran g c = ran_early (g.S.Finder.brings c.args.finder.now)
+    (form_of c.args.order.images c.args.order.json c.args.order.game.now) c.args.order.game.now
     c.args.order.certificate.now c.args.order.budget (g.F.Files.told c.args.files.now)
     (g.F.Files.told c.carry_out.new.files) (g.C.Console.told c.args.console.now)
     (g.C.Console.told c.carry_out.new.console) (g.C.Console.told c.end_early.new.console)
     c.in-Err.halt c.end_early.result c.in-Err.ensures.ran c.end_early.ensures
 
 pub returns-in-Err-clause-forced : goal.returns-in-Err-clause-forced
-returns-in-Err-clause-forced g c =
-    announced (g.S.Finder.brings c.args.finder.now) c.args.order.images c.args.order.game.now
+returns-in-Err-clause-forced g c = announced (g.S.Finder.brings c.args.finder.now)
+    (form_of c.args.order.images c.args.order.json c.args.order.game.now) c.args.order.game.now
     c.args.order.certificate.now c.args.order.budget (g.F.Files.told c.args.files.now)
     (g.F.Files.told c.carry_out.new.files) (g.C.Console.told c.args.console.now)
     (g.C.Console.told c.end_early.new.console) c.end_early.result
-    (ran_early (g.S.Finder.brings c.args.finder.now) c.args.order.images c.args.order.game.now
+    (ran_early (g.S.Finder.brings c.args.finder.now)
+    (form_of c.args.order.images c.args.order.json c.args.order.game.now) c.args.order.game.now
     c.args.order.certificate.now c.args.order.budget (g.F.Files.told c.args.files.now)
     (g.F.Files.told c.carry_out.new.files) (g.C.Console.told c.args.console.now)
     (g.C.Console.told c.carry_out.new.console) (g.C.Console.told c.end_early.new.console)

@@ -1,9 +1,9 @@
-use Rattle.std.proofs.Common.{[], ◌∷◌, ◌≡◌, ℕ, refl, sym, ap, subst}
+use Rattle.std.proofs.Common.{◌∙◌, ℕ, ap₂, refl, sym, subst}
 use Rattle.pg_io.specs.declared.stop.Stop.TheVariants.{Memory}
-use Rattle.pg_settle.proofs.Common.{Bytes, err_from_is_err_and, expanded_text}
-use Rattle.pg_settle.proofs.Common.{result_text, stopped_first, unknown_text}
+use Rattle.pg_settle.proofs.Common.{Bytes, err_from_is_err_and, stopped_first}
 use Rattle.pg_settle.specs.Findings.{IsKeptAs}
-use Rattle.pg_settle.specs.Settling.{SettlesLines, score_texts}
+use Rattle.pg_settle.specs.Outputs.{score_texts, texts_of_output}
+use Rattle.pg_settle.specs.Settling.{SettlesLines, form_of}
 use Rattle.pg_settle.proofs.Headings.{answer_of, answer_shows}
 use Rattle.pg_settle.proofs.Settles.{delivers_score, stays_open}
 use Rattle.pg_settle.proofs.settling.settle_lines.Goals as goal
@@ -12,8 +12,8 @@ pub returns-in_err-found-clause-settled : goal.returns-in_err-found-clause-settl
 returns-in_err-found-clause-settled g c =
     let p = err_from_is_err_and c.from_residual.result c.from_residual.ensures.1 in
     rw (p.1, p.2)
-    (stopped_first
-    (SettlesLines (g.S.Finder.brings c.args.finder.now) c.args.order.images c.args.game.now
+    (stopped_first (SettlesLines (g.S.Finder.brings c.args.finder.now)
+    (form_of c.args.order.images c.args.order.json c.args.order.game.now) c.args.game.now
     c.args.order.certificate.now c.args.order.budget) (g.F.Files.told c.args.files.now)
     (g.F.Files.told c.args.files.now) (g.C.Console.told c.args.console.now)
     (g.C.Console.told c.args.console.now) Memory refl refl refl)
@@ -24,11 +24,25 @@ returns-in_err-text-in-Certificate-clause-settled g c =
     let p = err_from_is_err_and c.from_residual-in_err-text-in-Certificate.result
     c.from_residual-in_err-text-in-Certificate.ensures.1 in
     rw (p.1, p.2)
-    (stopped_first
-    (SettlesLines (g.S.Finder.brings c.args.finder.now) c.args.order.images c.args.game.now
+    (stopped_first (SettlesLines (g.S.Finder.brings c.args.finder.now)
+    (form_of c.args.order.images c.args.order.json c.args.order.game.now) c.args.game.now
     c.args.order.certificate.now c.args.order.budget) (g.F.Files.told c.args.files.now)
     (g.F.Files.told c.args.files.now) (g.C.Console.told c.args.console.now)
     (g.C.Console.told c.args.console.now) Memory refl refl refl)
+
+pub returns-in_err-output-in-Certificate-clause-settled
+    : goal.returns-in_err-output-in-Certificate-clause-settled
+returns-in_err-output-in-Certificate-clause-settled g c =
+    let p = err_from_is_err_and c.from_residual-in_err-output-in-Certificate.result
+    c.from_residual-in_err-output-in-Certificate.ensures.1 in
+    rw (p.1, p.2)
+    (stopped_first
+    (SettlesLines (g.S.Finder.brings c.args.finder.now)
+    (form_of c.args.order.images c.args.order.json c.args.order.game.now)
+    c.args.game.now c.args.order.certificate.now c.args.order.budget)
+    (g.F.Files.told c.args.files.now) (g.F.Files.told c.args.files.now)
+    (g.C.Console.told c.args.console.now) (g.C.Console.told c.args.console.now) Memory refl refl
+    refl)
 
 pub returns-in-Certificate-clause-settled : goal.returns-in-Certificate-clause-settled
 returns-in-Certificate-clause-settled g c =
@@ -38,35 +52,49 @@ returns-in-Certificate-clause-settled g c =
     let answer = c.in_ok-found.found in
     let score = c.in-Certificate.score in
     let shown = c.in-Certificate.certificate in
+    let form = form_of c.args.order.images c.args.order.json c.args.order.game.now in
     let kept = subst (λ (t : Bytes). IsKeptAs c.args.order.images played shown t)
     (sym c.deref.ensures.value) c.in_ok-text-in-Certificate.ensures in
-    let texts : result_text played.kind score
-    ∷ expanded_text answer.expanded c.node_count-nodes.result ∷ []
-    ≡ score_texts played score shown answer.expanded =
-    ap (λ (n : ℕ). result_text played.kind score ∷ expanded_text answer.expanded n ∷ [])
-    c.node_count-nodes.ensures in
-    delivers_score brings c.args.order.images played c.args.order.certificate.now budget
-    (g.F.Files.told c.args.files.now) (g.F.Files.told c.deliver.new.files)
-    (g.C.Console.told c.args.console.now) (g.C.Console.told c.deliver.new.console) score shown
-    answer.expanded c.deref.result.now
-    (result_text played.kind score ∷ expanded_text answer.expanded c.node_count-nodes.result ∷ [])
-    c.deliver.result
-    (answer_shows brings played budget answer c.in_ok-found.ensures
+    delivers_score brings form played c.args.order.certificate.now budget
+    (g.F.Files.told c.args.files.now) (g.F.Files.told c.deliver_output.new.files)
+    (g.C.Console.told c.args.console.now)
+    (g.C.Console.told c.deliver_output.new.console) score shown answer.expanded c.deref.result.now
+    (texts_of_output c.in_ok-output-in-Certificate.output) c.deliver_output.result
+    (answer_shows brings played budget answer c.in_ok-found.ensures.answered
     c.shown_scores_are_values.ensures score shown c.in-Certificate.is)
-    (answer_of brings played budget answer c.in_ok-found.ensures _ answer.expanded
-    c.in-Certificate.is refl) kept texts c.deliver.ensures.delivered
+    (answer_of brings played budget answer c.in_ok-found.ensures.answered _ answer.expanded
+    c.in-Certificate.is refl) kept
+    (c.in_ok-output-in-Certificate.ensures
+    ∙ ap₂ (λ (n b : ℕ). score_texts form.json played score n answer.expanded b)
+    c.node_count-nodes.ensures (c.len-bytes.ensures ∙ sym c.deref.ensures.len))
+    c.deliver_output.ensures.delivered
 
-pub returns-in_err-say-in-Open-clause-settled : goal.returns-in_err-say-in-Open-clause-settled
-returns-in_err-say-in-Open-clause-settled g c =
-    let p = err_from_is_err_and c.from_residual-in_err-say-in-Open.result
-    c.from_residual-in_err-say-in-Open.ensures.1 in
+pub returns-in_err-said-in-Open-clause-settled
+    : goal.returns-in_err-said-in-Open-clause-settled
+returns-in_err-said-in-Open-clause-settled g c =
+    let p = err_from_is_err_and c.from_residual-in_err-said-in-Open.result
+    c.from_residual-in_err-said-in-Open.ensures.1 in
     rw (p.1, p.2)
     (stopped_first
-    (SettlesLines (g.S.Finder.brings c.args.finder.now) c.args.order.images c.args.game.now
+    (SettlesLines (g.S.Finder.brings c.args.finder.now)
+    (form_of c.args.order.images c.args.order.json c.args.order.game.now)
+    c.args.game.now c.args.order.certificate.now c.args.order.budget)
+    (g.F.Files.told c.args.files.now) (g.F.Files.told c.args.files.now)
+    (g.C.Console.told c.args.console.now) (g.C.Console.told c.args.console.now) Memory refl refl
+    refl)
+
+pub returns-in_err-say_text-in-Open-clause-settled :
+    goal.returns-in_err-say_text-in-Open-clause-settled
+returns-in_err-say_text-in-Open-clause-settled g c =
+    let p = err_from_is_err_and c.from_residual-in_err-say_text-in-Open.result
+    c.from_residual-in_err-say_text-in-Open.ensures.1 in
+    rw (p.1, p.2)
+    (stopped_first (SettlesLines (g.S.Finder.brings c.args.finder.now)
+    (form_of c.args.order.images c.args.order.json c.args.order.game.now) c.args.game.now
     c.args.order.certificate.now c.args.order.budget) (g.F.Files.told c.args.files.now)
     (g.F.Files.told c.args.files.now) (g.C.Console.told c.args.console.now)
-    (g.C.Console.told c.say.new.console) c.in_err-say-in-Open.field-0.0 refl
-    c.in_err-say-in-Open.ensures.said c.in_err-say-in-Open.ensures.left)
+    (g.C.Console.told c.say_text.new.console) c.in_err-say_text-in-Open.field-0.0 refl
+    c.in_err-say_text-in-Open.ensures.said c.in_err-say_text-in-Open.ensures.left)
 
 pub returns-clause-settled : goal.returns-clause-settled
 returns-clause-settled g c =
@@ -74,17 +102,18 @@ returns-clause-settled g c =
     let played = c.args.game.now in
     let budget = c.args.order.budget in
     let answer = c.in_ok-found.found in
-    stays_open brings c.args.order.images played c.args.order.certificate.now budget
-    (g.F.Files.told c.args.files.now) (g.F.Files.told c.args.files.now)
-    (g.C.Console.told c.args.console.now) (g.C.Console.told c.say.new.console) answer.expanded
-    (unknown_text answer.expanded)
-    (answer_of brings played budget answer c.in_ok-found.ensures _ answer.expanded c.in-Open.is
-    refl) refl refl c.in_ok-say-in-Open.ensures.said c.in_ok-say-in-Open.ensures.left
+    stays_open brings (form_of c.args.order.images c.args.order.json c.args.order.game.now) played
+    c.args.order.certificate.now budget (g.F.Files.told c.args.files.now)
+    (g.F.Files.told c.args.files.now) (g.C.Console.told c.args.console.now)
+    (g.C.Console.told c.say_text.new.console) answer.expanded c.as_str.result.now
+    (answer_of brings played budget answer c.in_ok-found.ensures.answered _ answer.expanded c.in-Open.is
+    refl) (c.as_str.ensures.value ∙ c.in_ok-said-in-Open.ensures) refl
+    c.in_ok-say_text-in-Open.ensures.said c.in_ok-say_text-in-Open.ensures.left
 
 pub file_of-requires-clause-valid : goal.file_of-requires-clause-valid
 file_of-requires-clause-valid g c =
     let shows = answer_shows (g.S.Finder.brings c.args.finder.now) c.args.game.now
-    c.args.order.budget c.in_ok-found.found c.in_ok-found.ensures
+    c.args.order.budget c.in_ok-found.found c.in_ok-found.ensures.answered
     c.shown_scores_are_values.ensures c.in-Certificate.score c.in-Certificate.certificate
     c.in-Certificate.is in
     shows.shows.valid
@@ -92,7 +121,7 @@ file_of-requires-clause-valid g c =
 pub file_of-requires-clause-limits : goal.file_of-requires-clause-limits
 file_of-requires-clause-limits g c =
     let shows = answer_shows (g.S.Finder.brings c.args.finder.now) c.args.game.now
-    c.args.order.budget c.in_ok-found.found c.in_ok-found.ensures
+    c.args.order.budget c.in_ok-found.found c.in_ok-found.ensures.answered
     c.shown_scores_are_values.ensures c.in-Certificate.score c.in-Certificate.certificate
     c.in-Certificate.is in
     shows.limits
@@ -100,7 +129,7 @@ file_of-requires-clause-limits g c =
 pub node_count-nodes-requires : goal.node_count-nodes-requires
 node_count-nodes-requires g c =
     let shows = answer_shows (g.S.Finder.brings c.args.finder.now) c.args.game.now
-    c.args.order.budget c.in_ok-found.found c.in_ok-found.ensures
+    c.args.order.budget c.in_ok-found.found c.in_ok-found.ensures.answered
     c.shown_scores_are_values.ensures c.in-Certificate.score c.in-Certificate.certificate
     c.in-Certificate.is in
     shows.limits.nodes

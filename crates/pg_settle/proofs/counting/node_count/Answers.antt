@@ -1,7 +1,7 @@
 use Rattle.std.proofs.Common.{◌≤◌, ◌+◌, List, length, take, sym, ap, subst, arith}
 use Rattle.pg_settle.proofs.Common.{Claim, MAX_NODES, node_count, sum_by-take-le}
 use Rattle.pg_cli.proofs.Making.{counted_more}
-use Rattle.pg_settle.proofs.settling.node_count.Goals as goal
+use Rattle.pg_settle.proofs.counting.node_count.Goals as goal
 
 pub overflow_add-count : goal.overflow_add-count
 overflow_add-count c =

@@ -1,0 +1,17 @@
+//! How many nodes a certificate has.
+ghost use Rattle.std.specs.Prelude.{◌≡◌, ◌≤◌};
+ghost use Rattle.pg_settle.specs.Prelude.{MAX_NODES, node_count};
+
+use pg_cert::Cert;
+
+/// Returns how many nodes the claims of a certificate have together, at most `MAX_NODES`.
+pub fn node_count(certificate: &Cert) -> u32
+    requires { node_count certificate.now.claims ≤ MAX_NODES }
+    ensures { result ≡ node_count certificate.now.claims }
+{
+    let mut count = 0;
+    for claim in certificate.claims.as_slice() {
+        count += claim.nodes.as_slice().len() as u32;
+    }
+    count
+}
