@@ -44,7 +44,7 @@ BENCHES = {
         f"--settle {kit.built('posgame_settle')}",
     "Files, names and consoles of the system that fail, and kills": "real_files.py",
     "Mutated files, words and dialogues": "fuzz.py --runs 20000",
-    "Each allocation of eighteen runs refused in turn": "memory.py",
+    "Each allocation of 22 runs refused in turn": "memory.py",
     "Certificates that reviews check": "checked.py",
 }
 # Those that are run by --long alone.

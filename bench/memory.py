@@ -1,7 +1,7 @@
 #!/usr/bin/env python3
-"""Refuses each allocation of runs of posgame in turn, and counts how the runs end.
+"""Refuses each allocation of runs of posgame and posgame-settle in turn, and counts how they end.
 
-    bench/memory.py [PROGRAM]
+    bench/memory.py [PROGRAM] [--settle PROGRAM]
 
 Every command is run, on real files, with a library that refuses the call of malloc or realloc of a
 given number, from 1 on until a run makes no such call. Each run has to end as it should without
@@ -31,6 +31,7 @@ TEXTS = {
     "TWO_LINES": kit.game("maker-breaker", "points 3", "line 0 1", "line 0 2"),
     "TRIANGLE": kit.switching((3, [(0, 1), (0, 2), (2, 1)]), turn="y"),
     "AVOIDED": kit.game("avoider-enforcer", "points 3", "line 0 1", "line 0 2", "line 1 2"),
+    "DRAWN": kit.game("maker-maker", "grid 3 3", *LINES),
     "ROUND": kit.span((3, [(0, 1), (1, 2), (0, 2)])),
     "VECTORS": "posgame-vectors 1\nrows 2\ntarget 11\nvector 10\nvector 01\nturn x\n",
     "MOVES": "posgame-record 1\nmove 1\nmove 2\nmove 0\n", "OLD": "old\n",
@@ -43,8 +44,10 @@ TEXTS = {
 
 
 class Row(NamedTuple):
-    """A run: its words, the files G and C, what is typed, and the lines that are due."""
+    """A run: the program, its words, the files G and C, what is typed, and the lines that are
+    due."""
 
+    program: str
     words: str
     files: dict[str, str]
     typed: list[str]
@@ -60,14 +63,21 @@ class Left(NamedTuple):
     refused: bool
 
 
-def leave(program: str, library: pathlib.Path, row: Row, number: int) -> Left:
+def form_of(line: str, due: list[str]) -> str:
+    """Returns a line, with # for each number if it is due in this form."""
+    form = re.sub(r"\d+", "#", line)
+    return form if form in due else line
+
+
+def leave(library: pathlib.Path, row: Row, number: int) -> Left:
     """Runs a row, in which the allocation of this number is refused; with 0 none is."""
     env = {**os.environ, "LD_PRELOAD": str(library), "REFUSED": str(number)}
     typed = "".join(f"{it}\n" for it in row.typed)
     with kit.files(**row.files) as folder:
-        done = kit.call(program, *row.words.split(), cwd=folder, input=typed, env=env)
+        done = kit.call(row.program, *row.words.split(), cwd=folder, input=typed, env=env)
         files = {path.name: path.read_text(encoding="ascii") for path in folder.iterdir()}
-    return Left(done.returncode, done.stdout.splitlines(), files, "refused" in done.stderr)
+    lines = [form_of(line, row.due) for line in done.stdout.splitlines()]
+    return Left(done.returncode, lines, files, "refused" in done.stderr)
 
 
 def ending(row: Row, whole: Left, left: Left) -> str:
@@ -85,29 +95,34 @@ def ending(row: Row, whole: Left, left: Left) -> str:
     return "status 5 or 6" if left.status in (5, 6) else "broken"
 
 
-def endings(program: str, library: pathlib.Path, row: Row) -> Iterator[str]:
+def endings(library: pathlib.Path, row: Row) -> Iterator[str]:
     """Returns how a row ended, for each allocation that is refused."""
-    whole = leave(program, library, row, 0)
-    runs = (leave(program, library, row, number) for number in itertools.count(1))
+    whole = leave(library, row, 0)
+    runs = (leave(library, row, number) for number in itertools.count(1))
     if whole.status or whole.lines != row.due:
         return iter(["broken without a refusal"])
     return (ending(row, whole, it) for it in itertools.takewhile(lambda it: it.refused, runs))
 
 
 def main() -> int:
-    program, table = kit.options(__doc__).program, kit.Table("run", "how it ended, by refusals")
+    given = kit.options(__doc__, settle=(str(kit.built("posgame_settle")), "posgame-settle"))
+    table = kit.Table("run", "how it ended, by refusals")
     with kit.files() as folder:
         library, source = folder / "refusing.so", kit.TOP / "bench" / "refusing.c"
         kit.call("cc", "-shared", "-fPIC", "-o", library, source, check=True, capture_output=False)
         for number, found in enumerate(ROW.findall(kit.data("memory.txt")), 1):
             words, game, other, typed, due = found
-            row = Row(words, {"G": TEXTS[game], "C": TEXTS[other]}, typed.split(), due.split("; "))
-            counts = collections.Counter(endings(program, library, row))
+            program = given.program
+            if words.startswith("settle "):
+                program, words = kit.program_path(given.settle), words.removeprefix("settle ")
+            files = {"G": TEXTS[game], "C": TEXTS[other]}
+            row = Row(program, words, files, typed.split(), due.split("; "))
+            counts = collections.Counter(endings(library, row))
             faults = [it.upper() for it in counts if it.startswith("broken")]
             if words.startswith("review") and not counts["status 7 after 1"]:
                 faults.append("NO LOSS IS PRINTED BEFORE THE NEXT POSITION IS DECIDED")
             figures = [f"{counts[it]} {it}" for it in sorted(counts)]
-            table.row(f"{number}: {words}", ", ".join(figures), wrong=faults)
+            table.row(f"{number}: {found[0]}", ", ".join(figures), wrong=faults)
     return table.end()
 
 

@@ -21,7 +21,6 @@ import argparse
 import collections
 import concurrent.futures
 import itertools
-import os
 import pathlib
 import re
 import sys
@@ -30,6 +29,10 @@ from typing import Iterable, Iterator, NamedTuple
 import boards
 import kit
 import same_search
+
+sys.path[:0] = [str(kit.TOP / "python")]
+
+import posgame.check as second  # noqa: E402
 
 MEGABYTES = 1_000
 # How many times the nodes and the seconds of bench/settling.txt are allowed.
@@ -108,14 +111,15 @@ def board(words: Iterable[str]) -> Board:
     return Board(f"{name}, {kit.KINDS[kind]}", text, result, int(nodes), float(seconds))
 
 
-def checkers(posgame: str, *paths: object) -> Iterator[str]:
+def checkers(posgame: str, game: pathlib.Path, certificate: pathlib.Path) -> Iterator[str]:
     """Yields what is wrong by each of the two checkers with a certificate."""
-    environment = {**os.environ, "PYTHONPATH": str(kit.TOP / "python")}
-    for name, *words in ("check", posgame, "check"), ("again", sys.executable, "-m",
-                                                     "posgame.check"):
-        done = kit.run(*words, *paths, env=environment)
-        if not done.is_accepted:
-            yield f"{name}: {done.said or done.errors:.200}"
+    done = kit.run(posgame, "check", game, certificate)
+    if not done.is_accepted:
+        yield f"check: {done.said or done.errors:.200}"
+    try:
+        second.check(game.read_bytes(), certificate.read_bytes())
+    except second.Fault as fault:
+        yield f"again: {fault}"
 
 
 def settle(given: argparse.Namespace, text: str, *flags: object, most: int = 0) -> Settled:

@@ -3,7 +3,7 @@ ghost use Rattle.std.specs.Prelude.{◌≡◌, IfOk};
 
 use crate::averages::Averages;
 use crate::expanding::Expanded;
-use crate::finder::Finder;
+use crate::finder::{Finder, Manner};
 use crate::known::{Entry, Glimpse, Known, Undecided};
 use crate::limits::Limits;
 use crate::numbers::{INFINITE, Numbers};
@@ -16,6 +16,13 @@ use std::alloc::Global;
 
 /// The most looks at positions for each position that may be expanded.
 const VISITS: u64 = 256;
+
+/// The number of positions that the first round expands; each later one expands twice as many as
+/// the one before.
+const FIRST_ROUND: u32 = 8_192;
+
+/// The most rounds.
+const ROUNDS: u32 = 24;
 
 /// The result of a search.
 #[derive(Debug, Drop)]
@@ -173,7 +180,7 @@ impl Finder {
         let mut frames = Vec::new(alloc);
         self.enter(alloc, &start, whole, &mut frames)?;
         for _step in 0..VISITS * u64::from(self.known.limits().positions) {
-            if frames.is_empty() || self.is_spent() {
+            if frames.is_empty() || self.is_spent() || self.is_round_over() {
                 break;
             }
             self.step(alloc, &mut frames)?;
@@ -182,6 +189,39 @@ impl Finder {
             Glimpse::Decided(number) => Ok(Some(number)),
             _ => Ok(None),
         }
+    }
+
+    /// Begins a round that expands at most `budget` positions.
+    fn begin_round(&mut self, alloc: Global, budget: u32, manner: Manner)
+        ensures { self.new.known.limits ≡ self.old.known.limits }
+    {
+        self.manner = manner;
+        self.round_end = self.known.expanded().saturating_add(budget);
+        self.known.forget_positions(alloc);
+    }
+
+    /// Searches in rounds, each from the game's own position, with moves judged late and early in
+    /// turn. Patterns stay from one round to the next.
+    fn search_in_rounds(&mut self, alloc: Global) -> Result<Option<u32>, Memory>
+        ensures { self.new.known.limits ≡ self.old.known.limits }
+    {
+        let mut budget = FIRST_ROUND;
+        let mut manner = Manner::Late;
+        for _round in 0..ROUNDS {
+            self.begin_round(alloc, budget, manner);
+            let root = self.descend(alloc)?;
+            if root.is_some() || self.is_spent() {
+                return Ok(root);
+            }
+            budget = budget.saturating_mul(2);
+            manner = manner.other();
+        }
+        Ok(None)
+    }
+
+    /// Tests whether the round has expanded as many positions as it may.
+    fn is_round_over(&self) -> bool {
+        self.known.expanded() >= self.round_end
     }
 
     /// Tests whether nothing more may be kept, or no position expanded.
@@ -194,7 +234,9 @@ impl Finder {
 ///
 /// It is a search by proof numbers to the depth (df-pn: A. Nagai, Df-pn Algorithm for Searching
 /// AND/OR Trees and Its Applications, 2002) over a table of exact positions, of which each that is
-/// decided leaves a pattern: what its winner needs. A position is decided where a pattern fits.
+/// decided leaves a pattern: what its winner needs. A position is decided if a pattern fits. Rounds
+/// judge moves late and early in turn: the one serves more often where Maker wins, the other where
+/// Breaker does.
 ///
 /// # Errors
 ///
@@ -211,14 +253,18 @@ pub fn search(alloc: Global, g: &Game, limits: Limits) -> Result<Found, Memory>
         trials: Trials::new(alloc)?,
         averages: Averages::new(alloc)?,
         total,
+        manner: Manner::Late,
+        round_end: 0,
     };
-    let root = finder.descend(alloc)?;
+    let root = finder.search_in_rounds(alloc)?;
     let Finder {
         arena,
         known,
         trials: _trials,
         averages: _averages,
         total: _total,
+        manner: _manner,
+        round_end: _round_end,
     } = finder;
     Ok(Found { arena, known, root })
 }

@@ -2,7 +2,7 @@
 ghost use Rattle.std.specs.Prelude.{◌≡◌};
 
 use crate::combining::{all_pattern, move_pattern};
-use crate::finder::{Finder, THREAT_STEPS, by_threat};
+use crate::finder::{Finder, Manner, THREAT_STEPS, by_threat};
 use crate::known::{Known, Undecided};
 use crate::numbers::{Numbers, first_numbers, quarters};
 use pg_base::{Memory, Side};
@@ -14,6 +14,9 @@ const MOST_FOUND: usize = 24;
 
 /// The number of Breaker's moves that are tried after a pass of Maker.
 const MOST_TRIED: usize = 3;
+
+/// The most moves that are judged when a position is expanded.
+const MOST_JUDGED: usize = 8;
 
 /// The most taken points with which the symmetries of a position serve.
 const FEW_TAKEN: u32 = 4;
@@ -193,6 +196,53 @@ impl Finder {
         }
     }
 
+    /// Judges the move to the point: returns the number of the mover's pattern if it wins, and
+    /// learns from it if it loses.
+    fn judge_move(
+        &mut self,
+        alloc: Global,
+        spot: &Spot,
+        point: u8,
+        going: &mut Undecided,
+    ) -> Result<Option<u32>, Memory>
+        ensures { self.new.known.limits ≡ self.old.known.limits }
+    {
+        let Some(next) = self.decide(alloc, &spot.after(point))? else {
+            return Ok(None);
+        };
+        if self.known.claimer(next) == Some(spot.turn) {
+            return self.add_move(alloc, spot.turn, point, next);
+        }
+        going.learn_all(alloc, &self.arena, &self.known, spot, next)?;
+        Ok(None)
+    }
+
+    /// Judges the heaviest moves, until one wins; returns the number of the mover's pattern then.
+    fn judge_heaviest(
+        &mut self,
+        alloc: Global,
+        spot: &Spot,
+        going: &mut Undecided,
+    ) -> Result<Option<u32>, Memory>
+        ensures { self.new.known.limits ≡ self.old.known.limits }
+    {
+        let live = self.arena.live(alloc, spot)?;
+        let weights = weigh(live.as_slice(), self.arena.longest);
+        let order = heaviest_first(alloc, &weights, going.must)?;
+        for i in 0..MOST_JUDGED {
+            let Some(weighed) = order.get(i).copied() else {
+                return Ok(None);
+            };
+            if going.must.has(weighed.point) {
+                let won = self.judge_move(alloc, spot, weighed.point, going)?;
+                if won.is_some() {
+                    return Ok(won);
+                }
+            }
+        }
+        Ok(None)
+    }
+
     /// Keeps the pattern of the waiter who answers all moves, and returns its number.
     pub(crate) fn add_all(
         &mut self,
@@ -235,6 +285,23 @@ impl Finder {
             answers: Vec::new(alloc),
         };
         self.learn_pass(alloc, spot, &mut going)?;
+        if self.manner == Manner::Early {
+            if let Some(number) = self.judge_heaviest(alloc, spot, &mut going)? {
+                return Ok(Some(Expanded::Decided(number)));
+            }
+        }
+        self.expanded(alloc, spot, going)
+    }
+
+    /// Returns the outcome of expanding a position from what was learnt.
+    fn expanded(
+        &mut self,
+        alloc: Global,
+        spot: &Spot,
+        mut going: Undecided,
+    ) -> Result<Option<Expanded>, Memory>
+        ensures { self.new.known.limits ≡ self.old.known.limits }
+    {
         if going.must.is_empty() {
             return match self.add_all(alloc, spot, going.answers.as_slice())? {
                 Some(number) => Ok(Some(Expanded::Decided(number))),

@@ -14,6 +14,15 @@ use std::alloc::Global;
 /// The most positions that a search for a threat line looks at.
 pub(crate) const THREAT_STEPS: u32 = 300;
 
+/// When the moves of a position are judged.
+#[derive(Clone, Copy, Debug, PartialEq, Eq)]
+pub(crate) enum Manner {
+    /// Each once the search follows it.
+    Late,
+    /// The heaviest ones already when the position is expanded.
+    Early,
+}
+
 /// A game, and what a search knows of it.
 #[derive(Debug, Drop)]
 pub(crate) struct Finder {
@@ -23,6 +32,20 @@ pub(crate) struct Finder {
     pub(crate) averages: Averages,
     /// What the lines weigh at the game's own position.
     pub(crate) total: u128,
+    /// When moves are judged.
+    pub(crate) manner: Manner,
+    /// The number of expanded positions that ends the round.
+    pub(crate) round_end: u32,
+}
+
+impl Manner {
+    /// Returns the other manner.
+    pub(crate) fn other(self) -> Manner {
+        match self {
+            Manner::Late => Manner::Early,
+            Manner::Early => Manner::Late,
+        }
+    }
 }
 
 /// Tests whether no line is left for Maker, or one is filled.

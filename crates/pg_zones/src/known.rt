@@ -215,6 +215,13 @@ impl Known {
         }
     }
 
+    /// Forgets all positions, and keeps the patterns.
+    pub(crate) fn forget_positions(&mut self, alloc: Global)
+        ensures { self.new.limits ≡ self.old.limits }
+    {
+        self.positions = HashMap::new(alloc);
+    }
+
     /// Removes what is known of the position and returns it.
     pub(crate) fn take(&mut self, spot: &Spot) -> Option<Entry>
         ensures { self.new.limits ≡ self.old.limits }

@@ -6,7 +6,7 @@ mod usage;
 
 use pg_finder::ProofNumbers;
 use pg_host::{HostConsole, HostFiles, guard_streams};
-use pg_messages::{DONE, NO_MEANING, NO_MEMORY, NO_WORDS};
+use pg_messages::{NO_MEANING, NO_MEMORY, NO_WORDS};
 use pg_settle::{Order, budget_for, settle};
 use std::env;
 use std::io::ErrorKind;
@@ -64,7 +64,7 @@ fn main(rt: HostRuntime) -> ExitCode {
         Ok(asked) => asked,
         Err(error) => {
             let _ = error.print(&rt);
-            return ExitCode::from(if error.use_stderr() { NO_MEANING } else { DONE });
+            return ExitCode::from(usage::status_of(&error));
         }
     };
     let status = run(&rt, &asked);

@@ -1,7 +1,9 @@
 //! The command line of the program, as `clap` reads it.
 use clap::builder::ValueParser;
+use clap::error::ErrorKind;
 use clap::{Arg, ArgAction, Command, Error};
 use pg_cert::MAX_NODES;
+use pg_messages::{DONE, NO_MEANING, NO_MEMORY};
 use pg_settle::{MAX_ENTRIES, MAX_EXPANDED, MIN_BUDGET, VERSION};
 use std::alloc::Global;
 
@@ -100,4 +102,12 @@ pub(crate) fn read_words<'a>(alloc: Global, words: &'a [String]) -> Result<Asked
         images: found.get_flag("images"),
         json: found.get_flag("json"),
     })
+}
+
+/// Returns the status of a run whose arguments ask for a text, or can't be read.
+pub(crate) fn status_of(error: &Error) -> u8 {
+    match error.kind() {
+        ErrorKind::OutOfMemory => NO_MEMORY,
+        _ => if error.use_stderr() { NO_MEANING } else { DONE },
+    }
 }
