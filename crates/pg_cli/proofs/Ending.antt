@@ -17,9 +17,11 @@ use Rattle.pg_words.specs.declared.family.FamilyTask.TheVariants as tasks
 use Rattle.pg_cli.specs.Generating.{searches}
 use Rattle.pg_cli.specs.Commands.{Gives, Quiets, Silences, SaysNoMeaning, statuses_of}
 use Rattle.pg_talk.specs.Hearing.{Hearing}
-use Rattle.pg_cli.specs.Run.{Allows, Declines, RanOn, Ran, CarriesOn, Carries, Ends}
+use Rattle.pg_cli.specs.Run.{Allows, Declines, RanOn, Ran, CarriesOn, Carries}
 use Rattle.pg_talk.proofs.Talking.{Hearing-then, Hearing-said}
 use Rattle.pg_cli.proofs.Tasks.{at_place, task_done, task_finishes, task_refuses, task_stops}
+use Rattle.pg_results.specs.Ending.{Ends}
+use Rattle.pg_results.proofs.Causes.{cause_finished, other_status, refusal_finishes, stop_ends}
 
 -- ---- statuses
 
@@ -51,33 +53,6 @@ finishes (Some (Review g r positions)) status (inl is) =
     subst (λ (s : ℕ). ending s ≡ Finished s) (sym is) refl
 finishes (Some (Review g r positions)) status (inr is) =
     subst (λ (s : ℕ). ending s ≡ Finished s) (sym is) refl
-
-refusal_finishes : (refusal : Refusal)
-    → ending (refusal_status refusal) ≡ Finished (refusal_status refusal)
-refusal_finishes NoMeaning = refl
-refusal_finishes (NoClaim side) = refl
-refusal_finishes (Game number line) = refl
-refusal_finishes (Certificate number line) = refl
-refusal_finishes (Rejected claim node why) = refl
-refusal_finishes (RejectedSpan claim why) = refl
-refusal_finishes (RejectedVectors claim node why) = refl
-refusal_finishes (RejectedImage claim node why) = refl
-refusal_finishes (FaultyRecord number line) = refl
-
-stop_ends : (stop : Stop) → ending (stop_status stop) ≡ stop_end stop
-stop_ends Read = refl
-stop_ends Write = refl
-stop_ends Memory = refl
-
--- a status of its own tells neither of a failed call nor of memory
-other_status : (status : ℕ)
-    → ending status ≡ Finished status
-    → (status ≢ READ_FAILED) × (status ≢ WRITE_FAILED) × (status ≢ NO_MEMORY)
-other_status status own = (
-  λ is. let e : Failed ≡ Finished status = sym (ap ending is) ∙ own in cc e,
-  λ is. let e : Failed ≡ Finished status = sym (ap ending is) ∙ own in cc e,
-  λ is. let e : Starved ≡ Finished status = sym (ap ending is) ∙ own in cc e,
-)
 
 -- ---- what was done
 
@@ -387,52 +362,4 @@ pub cause_done : (absent : Type 0) (command : Option Command) (files files' : Fi
     → Gives command (Ok status)
     → HasCause absent files files' before after status
 cause_done absent command files files' before after status calm gives =
-    let other = other_status status (finishes command status gives) in
-    record {
-      read = λ is. absurd (other.0 is);
-      write = λ is. absurd (other.1 is);
-      other = λ _ _. calm;
-    }
-
-pub cause_early : (absent : Type 0) (files files' : FilesTold) (before mid after : ConsoleTold)
-    (halt : Halt) (status : ℕ)
-    → BothCauses absent files files' before mid (Err halt)
-    → Ends halt mid after status
-    → HasCause absent files files' before after status
-cause_early absent files files' before mid after (Refused refusal) status calm
-    (inl (is, says, left, same)) =
-    let other = other_status status
-    (subst (λ (s : ℕ). ending s ≡ Finished s) (sym is) (refusal_finishes refusal)) in
-    record {
-      read = λ e. absurd (other.0 e);
-      write = λ e. absurd (other.1 e);
-      other = λ _ _. record { on_files = calm.on_files; on_console = same ∙ calm.on_console };
-    }
-cause_early absent files files' before mid after (Refused refusal) status calm (inr (
-  is,
-  quiet,
-  left,
-  rose,
-)) = record {
-  read = λ e. let f : WRITE_FAILED ≡ READ_FAILED = sym is ∙ e in absurd (cc f);
-  write = λ _. inr (subst (λ (f : Faults). Rose f.writes after.faults.writes) calm.on_console rose);
-  other = λ _ unwritten. absurd (unwritten is);
-}
-cause_early absent files files' before mid after (Stopped Read) status cause (is, same) = record {
-  read =
-      λ _. subst (λ (c : ConsoleTold). BothCauses absent files files' before c (Err (Stopped Read)))
-      (sym same) cause;
-  write = λ e. let f : READ_FAILED ≡ WRITE_FAILED = sym is ∙ e in absurd (cc f);
-  other = λ unread _. absurd (unread is);
-}
-cause_early absent files files' before mid after (Stopped Write) status cause (is, same) = record {
-  read = λ e. let f : WRITE_FAILED ≡ READ_FAILED = sym is ∙ e in absurd (cc f);
-  write = λ _. subst (λ (c : ConsoleTold).
-      BothCauses absent files files' before c (Err (Stopped Write))) (sym same) cause;
-  other = λ _ unwritten. absurd (unwritten is);
-}
-cause_early absent files files' before mid after (Stopped Memory) status calm (is, same) = record {
-  read = λ e. let f : NO_MEMORY ≡ READ_FAILED = sym is ∙ e in absurd (cc f);
-  write = λ e. let f : NO_MEMORY ≡ WRITE_FAILED = sym is ∙ e in absurd (cc f);
-  other = λ _ _. subst (λ (c : ConsoleTold). Calm files files' before c) (sym same) calm;
-}
+    cause_finished absent files files' before after status calm (finishes command status gives)

@@ -27,18 +27,19 @@ use Rattle.pg_messages.specs.declared.refusal.Refusal.TheVariants as refusals
 use Rattle.pg_words.specs.declared.family.Family.{Family}
 use Rattle.pg_cli.specs.Checking.{AcceptsAll}
 use Rattle.pg_cli.specs.Commands.{game_read}
-use Rattle.pg_cli.specs.Forced.{SaysGame, IsForcedFrom, IsForced, AreForced, AreForcedInGame}
+use Rattle.pg_cli.specs.Forced.{IsForcedFrom, IsForced, AreForced, AreForcedInGame}
 use Rattle.pg_cli.specs.Forced.{AnnouncesForced}
 use Rattle.pg_cli.specs.Playing.{IsPlayedBy, PlaysOn, claimer}
 use Rattle.pg_cli.specs.Reading.{both_held}
 use Rattle.pg_cli.specs.Reporting.{Accounts, Reports}
 use Rattle.pg_cli.specs.Generating.{StoresGame, game_file, size_text, size_texts}
 use Rattle.pg_cli.specs.Solving.{Solves, SolvesGame, Told, result_alone, result_and_counts}
-use Rattle.pg_cli.specs.Solving.{solution_text}
 use Rattle.pg_cli.specs.declared.solving.TheConstants.{DEFAULT_POSITIONS}
 use Rattle.pg_solve.specs.declared.solution.Solution.TheVariants.{Class as ForClass}
 use Rattle.pg_cli.proofs.Recorded.{records_other, reviews_other}
 use Rattle.pg_cli.specs.Run.{Allows, Acts, Declines, RanOn, Ran}
+use Rattle.pg_results.specs.Results.{SaysGame, solution_text}
+use Rattle.pg_results.proofs.Claims.{ValidClaimsAreForced}
 
 -- ---- texts that neither accept a claim nor say one (`IsOther`)
 
@@ -74,13 +75,6 @@ both_ok (Ok x) (Ok c) pair e =
 -- what is read of a certificate is within the limits
 abbrev pub ReadsWithinLimits : Type 0
 ReadsWithinLimits = (text : Bytes) (c : Cert) → certificate text ≡ Ok c → IsWithinLimits c
-
--- each claim of a valid certificate within the limits is forced
-abbrev pub ValidClaimsAreForced : Type 0
-ValidClaimsAreForced = (g : Game) (c : Cert) → IsWithinLimits c
-    → IsValid g c
-    → (i : ℕ) (claim : Claim) → slice_get c.claims i ≡ Some claim
-    → Forces g (with_turn g claim.turn) claim.side claim.goal
 
 -- each claim that is said of a game of a family is forced
 abbrev pub FamilyClaimsAreForced : Type 0

@@ -7,7 +7,7 @@ use Rattle.pg_cli.proofs.Common.{Grows-then, Halt, Refused, Stopped, refusal_tex
 use Rattle.pg_cli.proofs.Common.{Check, Play, Gen, Report, OfFamily, Record, Review}
 use Rattle.pg_sessions.proofs.Standing.{leaves-more}
 use Rattle.pg_cli.specs.Commands.{SpeaksInTime}
-use Rattle.pg_cli.specs.Run.{Ends}
+use Rattle.pg_results.specs.Ending.{Ends}
 
 module _ (before mid after : ConsoleTold) (halt : Halt) (status : ℕ)
     (ends : Ends halt mid after status) where

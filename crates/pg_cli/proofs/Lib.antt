@@ -10,7 +10,5 @@ pub mod Reports
 pub mod Solves
 pub mod Making
 pub mod Verdicts
-pub mod Differing
-pub mod FoldedFiles
 pub mod InTime
 pub mod ReportTexts

@@ -16,16 +16,6 @@ use Rattle.pg_cli.specs.Solving.{SolvesGame, result_and_counts}
 use Rattle.pg_cli.specs.declared.solving.TheConstants.{DEFAULT_POSITIONS}
 use Rattle.pg_cli.proofs.Solves.{leaves_search}
 
--- ---- counts
-
-pub counted_more : (claims : List Claim) (k : ℕ) (claim : Claim)
-    → k < length claims
-    → claim ≡ get_or claims k claim
-    → node_count (take (k + 1) claims) ≡ node_count (take k claims) + length claim.nodes
-counted_more claims k claim in_range at = ap node_count (take_more claims k claim in_range)
-    ∙ (sum_by_push (λ (c : Claim). length c.nodes) (take k claims) (get_or claims k claim)
-    ∙ ap (λ (c : Claim). node_count (take k claims) + length c.nodes) (sym at))
-
 -- ---- the game that is made
 
 -- no search is made only for a switching game

@@ -14,9 +14,10 @@ use Rattle.pg_files.specs.GameFile.{Entry as GameEntry}
 use Rattle.pg_pns.specs.Budget.{budget_for, most_for}
 use Rattle.pg_cli.specs.Commands.{IsGameHeld}
 use Rattle.pg_cli.specs.Run.{Refuses, CarriesOn, Carries}
-use Rattle.pg_cli.specs.Solving.{IsFileOf, IsLeftBehind, Shows, SolvesGame, Solves, Told}
+use Rattle.pg_cli.specs.Solving.{IsLeftBehind, SolvesGame, Solves, Told}
 use Rattle.pg_cli.specs.Solving.{result_alone}
 use Rattle.pg_cli.proofs.Runs.{carries_halt}
+use Rattle.pg_results.specs.Results.{IsFileOf, Shows}
 
 -- what delivers the certificate of what was found solves the game
 pub delivers_solution : (images : Bool) (told : Told) (g : Game) (name : Bytes) (positions : ℕ)

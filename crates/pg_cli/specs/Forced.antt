@@ -3,12 +3,7 @@ use Rattle.std.specs.Prelude.{◌≡◌, List, ◌++◌, Option, Some, Ok}
 use Rattle.pg_cli.specs.Prelude.{Goal, Side, Bytes, Holding, Entry, with_turn, start, Forces, Game}
 use Rattle.pg_cli.specs.Prelude.{game, entry, Command, OfFamily, AreForcedBy, AreForcedInFamily}
 use Rattle.pg_cli.specs.Commands.{game_read}
-
--- these bytes say this game
-pub record SaysGame (bytes : Option Bytes) (g : Game) : Type 0 where
-  pub text : Bytes
-  pub held : bytes ≡ Some text
-  pub said : game text ≡ Ok (entry g)
+use Rattle.pg_results.specs.Results.{SaysGame}
 
 -- these bytes say a game, and the side forces the goal from its marks with this turn
 abbrev pub IsForcedFrom : Option Bytes → Side → Side → Goal → Type 0

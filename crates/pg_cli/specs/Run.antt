@@ -108,17 +108,3 @@ abbrev pub Carries : Option Command
     → Type 0
 Carries command work files files' before after result = Runs (λ held. Refuses held command)
     (λ held. Acts held command work) files files' before after result
-
--- what ended a command is said, where it stands against the command, with its status; where that
--- fails, nothing is said. Where the run was stopped, its status comes at once
-abbrev pub Ends : Halt → ConsoleTold → ConsoleTold → ℕ → Type 0
-Ends (Refused refusal) before after status =
-    ((status ≡ refusal_status refusal)
-    × Grows before.log after.log (Said (refusal_text refusal) ∷ [])
-    × (after.left ≡ before.left)
-    × (after.faults ≡ before.faults))
-    ⊎ ((status ≡ WRITE_FAILED)
-    × (after.log ≡ before.log)
-    × (after.left ≡ before.left)
-    × Rose before.faults.writes after.faults.writes)
-Ends (Stopped stop) before after status = (status ≡ stop_status stop) × (after ≡ before)

@@ -17,55 +17,13 @@ use Rattle.pg_cert.specs.declared.cert.Version.TheVariants.{One}
 use Rattle.pg_solve.specs.declared.solution.Class.{Class}
 use Rattle.pg_solve.specs.declared.solution.Solution.TheVariants.{Class as ForClass}
 use Rattle.pg_cli.specs.declared.solving.TheConstants.{DEFAULT_POSITIONS}
+use Rattle.pg_results.specs.Results.{IsFileOf, Shows, solution_text}
 
 -- how many positions may be expanded: as many as are asked for, where they may be, and as usual
 -- where none are said
 abbrev pub positions_for : Option ℕ → Option ℕ
 positions_for None = Some DEFAULT_POSITIONS
 positions_for (Some n) = if nat_le MIN_POSITIONS n && nat_le n MAX_POSITIONS then Some n else None
-
--- the text of a class
-abbrev pub class_text : Class → Bytes
-class_text Short = class_short_text
-class_text Cut = class_cut_text
-class_text First = class_first_mover_text
-
--- the text of what was found
-abbrev pub solution_text : Game → Solution → Bytes
-solution_text g (Value score certificate) = result_text g.kind score
-solution_text g (ForClass class certificate) = class_text class
-solution_text g Unknown = []
-
--- the certificate shows what was found: the value of a game on lines from its position, or the
--- class of a switching game
-pub record Shows (g : Game) (solution : Solution) (c : Cert) : Type 0 where
-  pub own : certificate_of solution ≡ Some c
-  pub kind : is_class solution ≡ is_switching g.kind
-  pub holds : IsTrueOf g solution
-  pub valid : IsValid g c
-  pub limits : IsWithinLimits c
-  pub version : c.version ≡ One
-  -- the claims are those that are due, by turn, side and goal
-  pub claims : map heading c.claims ≡ due g.turn solution
-
--- the certificate folded, which has no fault, and stands for valid certificates alone, with the
--- same claims
-pub record IsFoldedFrom (g : Game) (c : Cert) (folded : ImageCert) : Type 0 where
-  pub well : FoldsWell g c folded
-  pub faultless : IsFaultless g folded
-  pub limits : IsImageWithinLimits folded
-  pub valid : (u : Unfolded) → IsUnfoldedCert g folded u → IsValid g u.cert
-  pub claims : (u : Unfolded)
-      → IsUnfoldedCert g folded u
-      → map heading u.cert.claims ≡ map heading c.claims
-
--- THE FILE of a certificate: as it is printed; or where images are asked for, as the folded one is
--- printed, unless the game isn't symmetric or the folded one lacks room
-abbrev pub IsFileOf : Bool → Game → Cert → Bytes → Type 0
-IsFileOf false g c text = text ≡ printed_certificate c
-IsFileOf true g c text =
-    ((folded : ImageCert) × IsFoldedFrom g c folded × (text ≡ printed_image_certificate folded))
-    ⊎ (IsFoldedWell g c None × (text ≡ printed_certificate c))
 
 -- what is said of what was found and of the certificate that shows it
 abbrev pub Told : Type 0

@@ -18,6 +18,7 @@ use pg_gen::{GenFault, bridge, rows, scatter};
 use pg_io::{Console, Files};
 use pg_messages::{Message, Refusal, UNKNOWN};
 use pg_pns::{Work, budget_of};
+use pg_results::node_count;
 use pg_talk::{Halt, deliver, say};
 use pg_words::Source;
 use std::alloc::Global;
@@ -58,18 +59,6 @@ fn size_message(game: &Game) -> Message
             edges: u32::from(game.points()),
         },
     }
-}
-
-/// How many nodes the claims of a certificate have together.
-fn node_count(certificate: &Cert) -> u32
-    requires { node_count certificate.now.claims ≤ MAX_NODES }
-    ensures { result ≡ node_count certificate.now.claims }
-{
-    let mut count = 0;
-    for claim in certificate.claims.as_slice() {
-        count += claim.nodes.as_slice().len() as u32;
-    }
-    count
 }
 
 /// Stores a game, and says how large it is.

@@ -3,7 +3,6 @@
 
 mod checking;
 mod code;
-mod filing;
 mod generating;
 mod json_report;
 mod judging;

@@ -4,7 +4,7 @@ ghost use Rattle.pg_cli.specs.Prelude.{Contains, BothCauses, HasCause};
 ghost use Rattle.pg_cli.specs.Commands.{Gives, IsLacking, LeavesFiles, LeavesWork, Quiets};
 ghost use Rattle.pg_cli.specs.Commands.{SaysNoMeaning, Silences, SpeaksInTime, asked, statuses_of};
 ghost use Rattle.pg_cli.specs.Forced.{AnnouncesForced};
-ghost use Rattle.pg_cli.specs.Run.{Carries, Ends, Ran};
+ghost use Rattle.pg_cli.specs.Run.{Carries, Ran};
 
 use crate::checking::check;
 use crate::generating::generate;
@@ -13,11 +13,12 @@ use crate::playing::play;
 use crate::reporting::report;
 use crate::solving::{Options, positions_for, solve};
 use pg_families::carry_out_in_family;
-use pg_io::{Console, Files, Stop};
-use pg_messages::{Message, NO_MEMORY, READ_FAILED, Refusal, WRITE_FAILED};
+use pg_io::{Console, Files};
+use pg_messages::Refusal;
 use pg_pns::Work;
+use pg_results::end_early;
 use pg_sessions::{record, review};
-use pg_talk::{Halt, say};
+use pg_talk::Halt;
 use pg_words::{Command, meaning};
 use std::alloc::Global;
 
@@ -91,21 +92,6 @@ fn carry_out<F: Files, C: Console>(
             Some(most) => review(alloc, &game, &name, most, files, console, work),
             None => Err(Halt::Refused(Refusal::NoMeaning)),
         },
-    }
-}
-
-/// Says what stands against a command, where that ended it, and gives its status.
-fn end_early<C: Console>(console: &mut C, halt: Halt) -> u8
-    ensures { Ends halt (C.told console.old) (C.told console.new) result }
-{
-    match halt {
-        Halt::Refused(refusal) => match say(console, Message::Refused(refusal)) {
-            Ok(()) => refusal.status(),
-            Err(_) => WRITE_FAILED,
-        },
-        Halt::Stopped(Stop::Read) => READ_FAILED,
-        Halt::Stopped(Stop::Write) => WRITE_FAILED,
-        Halt::Stopped(Stop::Memory) => NO_MEMORY,
     }
 }
 

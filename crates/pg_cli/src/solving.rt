@@ -6,17 +6,17 @@ ghost use Rattle.pg_cli.specs.Prelude.{DONE, UNKNOWN, Solve, Does, BothCauses, I
 ghost use Rattle.pg_cli.specs.Prelude.{MuteAtMemory, IsGameLacking, Delivers, StoresAt, texts_of};
 ghost use Rattle.pg_cli.specs.Commands.{Gives, LeavesWork, Quiets};
 ghost use Rattle.pg_cli.specs.Run.{Carries};
-ghost use Rattle.pg_cli.specs.Solving.{IsFound, IsSolveEnd, SolvesGame, class_text, positions_for};
+ghost use Rattle.pg_cli.specs.Solving.{IsFound, IsSolveEnd, SolvesGame, positions_for};
 ghost use Rattle.pg_cli.specs.Solving.{result_alone};
 
-use crate::filing::print_solution;
 use pg_base::Memory;
 use pg_cert::{Cert, print_cert};
 use pg_game::{Game, MAX_POSITIONS};
 use pg_io::{Console, Files};
 use pg_messages::{Message, UNKNOWN};
 use pg_pns::{Work, budget_of};
-use pg_solve::{Class, MIN_POSITIONS, Solution};
+use pg_results::{class_message, print_solution};
+use pg_solve::{MIN_POSITIONS, Solution};
 use pg_talk::{Halt, deliver, open_game, say};
 use std::alloc::Global;
 
@@ -43,17 +43,6 @@ pub fn positions_for(positions: Option<u32>) -> Option<u32>
         None => Some(DEFAULT_POSITIONS),
         Some(n) if MIN_POSITIONS <= n && n <= MAX_POSITIONS => Some(n),
         Some(_) => None,
-    }
-}
-
-/// The message of a class.
-fn class_message(class: Class) -> Message
-    ensures { message_text result ≡ class_text class }
-{
-    match class {
-        Class::Short => Message::ClassShort,
-        Class::Cut => Message::ClassCut,
-        Class::First => Message::ClassFirstMover,
     }
 }
 

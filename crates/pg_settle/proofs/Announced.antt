@@ -2,7 +2,7 @@
 use Rattle.std.proofs.Common.{◌≡◌, ◌≢◌, ◌⊎◌, ◌∙◌, ℕ, List, [], ◌∷◌, ◌++◌, get_or, length}
 use Rattle.std.proofs.Common.{Option, Some, None, Result, Ok, Err, refl, sym, ap, subst, inl, inr}
 use Rattle.std.specs.Prelude.{IfSome}
-use Rattle.pg_settle.proofs.Common.{Bytes, Class, ConsoleTold, Contains, Declines, Delivers}
+use Rattle.pg_settle.proofs.Common.{Bytes, Class, ConsoleTold, Contains, DeclinesGame, Delivers}
 use Rattle.pg_settle.proofs.Common.{Done, End, Entry, Failed, FilesTold, Finished, Game, Grows}
 use Rattle.pg_settle.proofs.Common.{Halt, Holding, Refusal, Said, SaysGame, Score}
 use Rattle.pg_settle.proofs.Common.{Starved, append_cancel_left, apart, ending}
@@ -17,7 +17,6 @@ use Rattle.serde_json.proofs.OnLiterals.{serde_json_on_literals}
 use Rattle.pg_settle.specs.JsonLines.{json_line, value_data}
 use Rattle.pg_settle.specs.Outputs.{class_texts, open_text, score_texts}
 use Rattle.pg_settle.specs.Runs.{Allows, AnnouncesValue, IsLineOf, Ran, RanOn, SaysValue, Settles}
-use Rattle.pg_settle.specs.Runs.{as_solve}
 use Rattle.pg_settle.specs.Settling.{DeliversScore, Form, SettlesGame, SettlesLines}
 use Rattle.pg_settle.specs.Settling.{SettlesSwitching}
 use Rattle.pg_settle.specs.declared.budget.Budget.{Budget}
@@ -250,7 +249,7 @@ module _ (Brings : Game → Budget → Outcome → Type 0) (form : Form) (game_n
         game_says bytes g says form name Brings budget done end settles
 
   declines_say : (held : Holding) (done : Done) (end : End)
-      → Declines held (as_solve game_name name) done end
+      → DeclinesGame held game_name done end
       → SaysValue (held game_name) done.entries
   declines_say held done (Finished status) (refusal, refuses, says, stored, is) =
       others_say (held game_name) done.entries

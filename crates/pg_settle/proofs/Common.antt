@@ -1,8 +1,9 @@
 -- What the proofs of this crate name of std and of the crates below.
-pub use Rattle.pg_settle.specs.Prelude.{AreClassClaims, Bytes, Cert, Changes, Claim, Class, Command}
-pub use Rattle.pg_settle.specs.Prelude.{ConsoleTold, Contains, Declines, Delivers, DifferInPosition}
+pub use Rattle.pg_settle.specs.Prelude.{AreClassClaims, Bytes, Cert, Changes, Claim, Class}
+pub use Rattle.pg_settle.specs.Prelude.{ConsoleTold, Contains, DeclinesGame, Delivers}
+pub use Rattle.pg_settle.specs.Prelude.{DifferInPosition}
 pub use Rattle.pg_settle.specs.Prelude.{Does, Done, End, Ends, Entry, Failed, FilesTold, Finished}
-pub use Rattle.pg_settle.specs.Prelude.{Game, Gives, Goal, Halt, HaveDifferentPositions, Holding}
+pub use Rattle.pg_settle.specs.Prelude.{Game, Goal, Halt, HaveDifferentPositions, Holding}
 pub use Rattle.pg_settle.specs.Prelude.{IsFileOf, IsSaidBy, IsValid, IsWithinLimits, Kind}
 pub use Rattle.pg_settle.specs.Prelude.{MAX_NODES, Refused}
 pub use Rattle.pg_settle.specs.Prelude.{Said, SaysGame, Score, Shows, Side, Starved, UNKNOWN, X, Y}

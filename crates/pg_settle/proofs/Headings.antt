@@ -4,7 +4,7 @@ use Rattle.std.proofs.Common.{Some, refl, sym, ap, subst, arith}
 use Rattle.pg_settle.proofs.Common.{Cert, Claim, Draw, Forces, Game, Goal, Heading, IsValid}
 use Rattle.pg_settle.proofs.Common.{IsWithinLimits, Score, Side, X, XWins, Y, YWins, draws, heading}
 use Rattle.pg_settle.proofs.Common.{length-map, start, value, wins, with_turn}
-use Rattle.pg_cli.proofs.Forced.{ValidClaimsAreForced}
+use Rattle.pg_results.proofs.Claims.{ValidClaimsAreForced}
 use Rattle.pg_solve.proofs.Values.{both-draw, x-wins, y-wins}
 use Rattle.pg_settle.specs.Findings.{HasHeading, IsAnswer, IsJudged, IsShowing, IsWritable}
 use Rattle.pg_settle.specs.Findings.{ShowsScore, ShowsValue}

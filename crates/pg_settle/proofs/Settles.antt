@@ -1,5 +1,6 @@
 -- Settling, put together.
-use Rattle.std.proofs.Common.{◌≡◌, ◌≢◌, ℕ, Bool, List, [], ◌∷◌, Option, Some, None, Result, Ok, Err}
+use Rattle.std.proofs.Common.{◌≡◌, ◌≢◌, ℕ, Bool, true, false, List, [], ◌∷◌, Option, Some, None}
+use Rattle.std.proofs.Common.{Result, Ok, Err}
 use Rattle.std.proofs.Common.{length, refl, sym, ap, subst, inl, inr}
 use Rattle.std.specs.Prelude.{IfSome}
 use Rattle.pg_settle.proofs.Common.{Bytes, Cert, Class, ConsoleTold, Delivers, Does, Done, End}
@@ -10,7 +11,7 @@ use Rattle.pg_settle.proofs.Common.{node_count, runs_halt, stop_end, talk, talke
 use Rattle.pg_files.specs.GameFile.{Entry as GameEntry}
 use Rattle.pg_base.specs.declared.kind.Kind.TheVariants.{Switching}
 use Rattle.pg_solve.specs.declared.solution.Solution.TheVariants.{Class as ForClass}
-use Rattle.pg_cli.proofs.Differing.{solution_differs}
+use Rattle.pg_results.proofs.Differing.{solution_differs}
 use Rattle.pg_settle.specs.Findings.{IsAnswer, IsKeptAs, ShowsValue}
 use Rattle.pg_settle.specs.Runs.{Carries, Settles}
 use Rattle.pg_settle.specs.Settling.{SettlesGame, SettlesLines, SettlesSwitching, ShowsClass}
@@ -27,8 +28,9 @@ pub class_file : (images : Bool) (g : Game) (class : Class) (c : Cert) (text : B
     → ShowsClass g class c
     → IsKeptAs images g c text
     → IsFileOf images g c text
-class_file images g class c text shows (inl is) = is
-class_file images g class c text shows (inr (alike, is)) =
+class_file false g class c text shows is = is
+class_file true g class c text shows (inl (differ, is)) = is
+class_file true g class c text shows (inr (alike, is)) =
     absurd (alike (solution_differs g 0 [] (ForClass class c) c shows.sets refl))
 
 -- what delivers the certificate of a class settles the game

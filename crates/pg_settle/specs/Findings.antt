@@ -1,5 +1,5 @@
 -- What a finder brings, how it is judged, and how it is stored.
-use Rattle.std.specs.Prelude.{◌≡◌, ◌≤◌, ◌⊎◌, Bool, map, ⊤}
+use Rattle.std.specs.Prelude.{◌≡◌, ◌≤◌, ◌⊎◌, Bool, true, false, map, ⊤}
 use Rattle.pg_settle.specs.Prelude.{Bytes, Cert, Claim, DifferInPosition, Game, Goal, IsFileOf}
 use Rattle.pg_settle.specs.Prelude.{IsValid, IsWithinLimits, Score, Side, due_for_value, heading}
 use Rattle.pg_settle.specs.Prelude.{printed_certificate, start, value}
@@ -54,8 +54,9 @@ pub record ShowsValue (g : Game) (score : Score) (c : Cert) : Type 0 where
 
 -- ---- the file
 
--- THE FILE of a certificate that was brought: that of a certificate which solving has found; where
--- two nodes of a claim have the same position it isn't folded
+-- THE FILE of a certificate that was brought: that of a certificate which solving has found; with
+-- images it is as printed if two nodes of a claim have the same position
 abbrev pub IsKeptAs : Bool → Game → Cert → Bytes → Type 0
-IsKeptAs images g c text =
-    IsFileOf images g c text ⊎ ((DifferInPosition c → ⊥) × (text ≡ printed_certificate c))
+IsKeptAs false g c text = IsFileOf false g c text
+IsKeptAs true g c text = (DifferInPosition c × IsFileOf true g c text)
+    ⊎ ((DifferInPosition c → ⊥) × (text ≡ printed_certificate c))

@@ -13,10 +13,6 @@ pub use Rattle.pg_cert.specs.Valid.{IsValid}
 pub use Rattle.pg_cert.specs.declared.cert.Cert.{Cert}
 pub use Rattle.pg_cert.specs.declared.cert.Claim.{Claim}
 pub use Rattle.pg_cert.specs.declared.limits.TheConstants.{MAX_NODES}
-pub use Rattle.pg_cli.specs.Commands.{Gives, Quiets, Silences, statuses_of}
-pub use Rattle.pg_cli.specs.Forced.{SaysGame}
-pub use Rattle.pg_cli.specs.Run.{Declines, Ends}
-pub use Rattle.pg_cli.specs.Solving.{IsFileOf, Shows, class_text}
 pub use Rattle.pg_fold.specs.Folded.{DifferInPosition, HaveDifferentPositions}
 pub use Rattle.pg_game.specs.Game.{start}
 pub use Rattle.pg_game.specs.Value.{value}
@@ -28,6 +24,10 @@ pub use Rattle.pg_io.specs.declared.entry.Entry.{Entry}
 pub use Rattle.pg_messages.specs.Texts.{expanded_text, message_text, outcome_word, result_text}
 pub use Rattle.pg_messages.specs.Texts.{unknown_text}
 pub use Rattle.pg_messages.specs.declared.statuses.TheConstants.{DONE, UNKNOWN}
+pub use Rattle.pg_results.specs.Ending.{Ends}
+pub use Rattle.pg_results.specs.GameRuns.{DeclinesGame, EndsOnGame, IsQuiet, IsSilent}
+pub use Rattle.pg_results.specs.GameRuns.{game_statuses}
+pub use Rattle.pg_results.specs.Results.{IsFileOf, SaysGame, Shows, class_text}
 pub use Rattle.pg_solve.specs.Due.{draws, due_for_value, heading, wins}
 pub use Rattle.pg_solve.specs.EdgeClaims.{AreClassClaims}
 pub use Rattle.pg_solve.specs.declared.solution.Class.{Class}
@@ -38,7 +38,6 @@ pub use Rattle.pg_talk.specs.Runs.{Runs}
 pub use Rattle.pg_talk.specs.Storing.{Delivers, StoresAt, texts_of}
 pub use Rattle.pg_talk.specs.declared.halt.Halt.TheVariants.{Refused}
 pub use Rattle.pg_talk.specs.declared.halt.Halt.{Halt}
-pub use Rattle.pg_words.specs.Words.{Command, Solve}
 pub use Rattle.serde_json.specs.Data.{Data, Members, member, no_members, number, object, string}
 pub use Rattle.serde_json.specs.Data.{unsigned}
 pub use Rattle.serde_json.specs.View.{view}

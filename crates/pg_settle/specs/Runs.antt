@@ -1,20 +1,15 @@
 -- WHAT A RUN IS.
-use Rattle.std.specs.Prelude.{◌≡◌, ◌⊎◌, ℕ, Bool, false, List, ◌++◌, Option, Some, Result, Ok, Err}
+use Rattle.std.specs.Prelude.{◌≡◌, ◌⊎◌, ℕ, List, ◌++◌, Option, Some, Result, Ok, Err}
 use Rattle.std.specs.Prelude.{IfSome}
-use Rattle.pg_settle.specs.Prelude.{Bytes, Changes, Command, ConsoleTold, Contains, Declines, Done}
+use Rattle.pg_settle.specs.Prelude.{Bytes, Changes, ConsoleTold, Contains, DeclinesGame, Done}
 use Rattle.pg_settle.specs.Prelude.{End, Entry, FilesTold, Game, Halt, Holding, IsSaidBy, Kind}
-use Rattle.pg_settle.specs.Prelude.{Refused, Runs, Said, SaysGame, Score, Solve, ending, game_held}
+use Rattle.pg_settle.specs.Prelude.{Refused, Runs, Said, SaysGame, Score, ending, game_held}
 use Rattle.pg_settle.specs.Prelude.{result_text, start, value}
 use Rattle.pg_files.specs.GameFile.{Entry as GameEntry}
 use Rattle.pg_settle.specs.JsonLines.{json_line, value_data}
 use Rattle.pg_settle.specs.Settling.{Form, SettlesGame}
 use Rattle.pg_settle.specs.declared.budget.Budget.{Budget}
 use Rattle.pg_settle.specs.declared.finding.Outcome.{Outcome}
-
--- the command `solve` with these names: a run that settles a game refuses what it refuses, is
--- silent where it is silent, and ends with one of its statuses
-abbrev pub as_solve : Bytes → Bytes → Option Command
-as_solve game name = Some (Solve game name (Some 1) false)
 
 module _ (Brings : Game → Budget → Outcome → Type 0) (form : Form) where
   -- what settling does, by the game that was read
@@ -34,7 +29,7 @@ module _ (Brings : Game → Budget → Outcome → Type 0) (form : Form) where
   -- the game is settled, or what stands against that is said with its status
   abbrev pub Allows : Holding → Bytes → Bytes → Budget → Done → End → Type 0
   Allows held game name budget done end =
-      Declines held (as_solve game name) done end
+      DeclinesGame held game done end
       ⊎ Settles (game_held (held game)) name budget done end
 
   -- a run on names that hold these bytes

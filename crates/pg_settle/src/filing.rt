@@ -6,15 +6,17 @@ ghost use Rattle.pg_settle.specs.Findings.{IsKeptAs};
 use crate::differing::claims_differ;
 use pg_base::Memory;
 use pg_cert::{Cert, print_cert};
-use pg_fold::fold_by_symmetry;
-use pg_fold::laws::folded_certificates_stay_valid;
 use pg_game::Game;
-use pg_image::print_image;
+use pg_results::print_solution;
 use std::alloc::Global;
 
-/// The text of a certificate; where images are asked for, that of the folded one, unless two nodes
-/// of one claim have the same position, no turn or reflection of the board but the one of number 0
-/// fits the game, or the folded one has too many nodes unfolded.
+/// Returns the text of a certificate; with images, that of the folded one, unless two nodes of one
+/// claim have the same position, no turn or reflection of the board but the one of number 0 fits
+/// the game, or the folded one has too many nodes unfolded.
+///
+/// # Errors
+///
+/// `Memory` if memory runs out.
 pub(crate) fn file_of(
     alloc: Global,
     game: &Game,
@@ -25,16 +27,8 @@ pub(crate) fn file_of(
     requires limits { IsWithinLimits certificate.now }
     ensures { IfOk result (λ text. IsKeptAs images game.now certificate.now text.items) }
 {
-    if !images {
-        return print_cert(alloc, certificate);
+    if images && claims_differ(alloc, certificate)? {
+        return print_solution(alloc, game, certificate, true);
     }
-    let differ = claims_differ(alloc, certificate)?;
-    if !differ {
-        return print_cert(alloc, certificate);
-    }
-    folded_certificates_stay_valid();
-    match fold_by_symmetry(alloc, game, certificate)? {
-        Some(folded) => print_image(alloc, &folded),
-        None => print_cert(alloc, certificate),
-    }
+    print_cert(alloc, certificate)
 }

@@ -4,7 +4,6 @@
 
 mod answering;
 mod budget;
-mod counting;
 mod delivering;
 mod differing;
 mod filing;
@@ -24,13 +23,12 @@ pub use answering::answer;
 pub use budget::{
     Budget, DEFAULT_ENTRIES, DEFAULT_EXPANDED, MAX_ENTRIES, MAX_EXPANDED, MIN_BUDGET, budget_for,
 };
-pub use counting::node_count;
 pub use finder::Finder;
 pub use finding::{Finding, Outcome};
 pub use json_line::{line_of, score_word};
 pub use judging::shows;
 pub use laws::shown_scores_are_values;
 pub use order::Order;
-pub use running::{end_early, settle};
+pub use running::settle;
 pub use switching::classified;
 pub use version::VERSION;

@@ -1,6 +1,5 @@
 //! What is printed of a result.
 ghost use Rattle.std.specs.Prelude.{◌≡◌, IfOk, string_bytes};
-ghost use Rattle.pg_settle.specs.Prelude.{class_text, message_text};
 ghost use Rattle.pg_settle.specs.JsonLines.{json_name};
 ghost use Rattle.pg_settle.specs.Outputs.{class_texts, open_text, score_texts, texts_of_output};
 
@@ -9,6 +8,7 @@ use crate::order::Order;
 use pg_base::{Memory, Score};
 use pg_game::Game;
 use pg_messages::Message;
+use pg_results::class_message;
 use pg_solve::Class;
 use std::alloc::Global;
 
@@ -19,17 +19,6 @@ pub(crate) enum Output {
     Messages(Message, Option<Message>),
     /// A line of JSON.
     Json(String),
-}
-
-/// The message of a class.
-fn class_message(class: Class) -> Message
-    ensures { message_text result ≡ class_text class }
-{
-    match class {
-        Class::Short => Message::ClassShort,
-        Class::Cut => Message::ClassCut,
-        Class::First => Message::ClassFirstMover,
-    }
 }
 
 /// What is printed of a score, by how many nodes and bytes the certificate has and how many

@@ -1,17 +1,18 @@
 //! The top call.
 ghost use Rattle.std.specs.Prelude.{◌≡◌, [], ◌∷◌};
-ghost use Rattle.pg_settle.specs.Prelude.{BothCauses, Contains, Ends, Gives, HasCause};
-ghost use Rattle.pg_settle.specs.Prelude.{IsGameLacking, Quiets, Silences, StoresAt, statuses_of};
+ghost use Rattle.pg_settle.specs.Prelude.{BothCauses, Contains, EndsOnGame, HasCause};
+ghost use Rattle.pg_settle.specs.Prelude.{IsGameLacking, IsQuiet, IsSilent, StoresAt};
+ghost use Rattle.pg_settle.specs.Prelude.{game_statuses};
 ghost use Rattle.pg_settle.specs.Budgets.{IsBudget};
-ghost use Rattle.pg_settle.specs.Runs.{AnnouncesValue, Carries, Ran, as_solve};
+ghost use Rattle.pg_settle.specs.Runs.{AnnouncesValue, Carries, Ran};
 ghost use Rattle.pg_settle.specs.Settling.{form_of};
 
 use crate::finder::Finder;
 use crate::order::Order;
 use crate::settling::settle_game;
-use pg_io::{Console, Files, Stop};
-use pg_messages::{Message, NO_MEMORY, READ_FAILED, WRITE_FAILED};
-use pg_talk::{Halt, open_game, say};
+use pg_io::{Console, Files};
+use pg_results::end_early;
+use pg_talk::{Halt, open_game};
 use std::alloc::Global;
 
 /// Reads the game that is to be settled, and settles it.
@@ -29,29 +30,13 @@ fn carry_out<F: Files, C: Console, S: Finder>(
         (F.told files.old) (F.told files.new) (C.told console.old) (C.told console.new) result }
     ensures causes { BothCauses (IsGameLacking (F.told files.old).held order.entry.game.now)
         (F.told files.old) (F.told files.new) (C.told console.old) (C.told console.new) result }
-    ensures quiet { Quiets (as_solve order.entry.game.now order.entry.certificate.now)
-        (C.told console.old) (C.told console.new) result }
+    ensures quiet { IsQuiet (C.told console.old) (C.told console.new) result }
     ensures files { StoresAt (order.entry.certificate.now ∷ [])
         (F.told files.old) (F.told files.new) }
-    ensures gives { Gives (as_solve order.entry.game.now order.entry.certificate.now) result }
+    ensures gives { EndsOnGame result }
 {
     let game = open_game(alloc, files, order.game)?;
     settle_game(alloc, &game, order, finder, files, console)
-}
-
-/// Prints why a run is refused, if that ended it, and returns the exit status.
-pub fn end_early<C: Console>(console: &mut C, halt: Halt) -> u8
-    ensures { Ends halt (C.told console.old) (C.told console.new) result }
-{
-    match halt {
-        Halt::Refused(refusal) => match say(console, Message::Refused(refusal)) {
-            Ok(()) => refusal.status(),
-            Err(_) => WRITE_FAILED,
-        },
-        Halt::Stopped(Stop::Read) => READ_FAILED,
-        Halt::Stopped(Stop::Write) => WRITE_FAILED,
-        Halt::Stopped(Stop::Memory) => NO_MEMORY,
-    }
 }
 
 /// Settles a game: reads it, asks the finder for a certificate, judges that, and where it shows its
@@ -89,10 +74,8 @@ pub fn settle<F: Files, C: Console, S: Finder>(
         (F.told files.old) (F.told files.new) (C.told console.old) (C.told console.new) result }
     ensures forced { AnnouncesValue (F.told files.old).held order.entry.game.now
         (C.told console.old).log (C.told console.new).log }
-    ensures silent { Silences (as_solve order.entry.game.now order.entry.certificate.now)
-        (C.told console.old) (C.told console.new) result }
-    ensures statuses { Contains
-        (statuses_of (as_solve order.entry.game.now order.entry.certificate.now)) result }
+    ensures silent { IsSilent (C.told console.old) (C.told console.new) result }
+    ensures statuses { Contains game_statuses result }
     ensures files { StoresAt (order.entry.certificate.now ∷ [])
         (F.told files.old) (F.told files.new) }
     ensures causes { HasCause (IsGameLacking (F.told files.old).held order.entry.game.now)

@@ -5,7 +5,6 @@ ghost use Rattle.pg_settle.specs.Budgets.{IsBudget};
 ghost use Rattle.pg_settle.specs.Settling.{IsSettleEnd, SettlesGame, SettlesLines, form_of};
 
 use crate::answering::answer;
-use crate::counting::node_count;
 use crate::delivering::deliver_output;
 use crate::filing::file_of;
 use crate::finder::Finder;
@@ -18,6 +17,7 @@ use pg_base::Kind;
 use pg_game::Game;
 use pg_io::{Console, Files};
 use pg_messages::UNKNOWN;
+use pg_results::node_count;
 use pg_talk::{Halt, say_text};
 use std::alloc::Global;
 

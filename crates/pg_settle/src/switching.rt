@@ -4,7 +4,6 @@ ghost use Rattle.pg_settle.specs.Prelude.{BothCauses, DONE, Does, IsWriteHalt, M
 ghost use Rattle.pg_settle.specs.Prelude.{StoresAt, Switching};
 ghost use Rattle.pg_settle.specs.Settling.{SettlesSwitching, ShowsClass, form_of};
 
-use crate::counting::node_count;
 use crate::delivering::deliver_output;
 use crate::filing::file_of;
 use crate::order::Order;
@@ -14,6 +13,7 @@ use pg_cert::Cert;
 use pg_game::Game;
 use pg_io::{Console, Files};
 use pg_pns::Work;
+use pg_results::node_count;
 use pg_solve::{Class, MIN_POSITIONS, Solution, solve};
 use pg_talk::Halt;
 use std::alloc::Global;

@@ -1,10 +1,11 @@
 use Rattle.std.proofs.Common.{ℕ, false, [], ◌∷◌, length, Option, refl, ◌∙◌, ap, subst}
 use Rattle.pg_cli.proofs.Common.{err_from_is_err_and, Bytes, Memory, printed_certificate, Cert}
 use Rattle.pg_cli.proofs.Common.{expanded_text, message_text, unknown_text, Message, stopped_first}
-use Rattle.pg_cli.specs.Solving.{IsFound, SolvesGame, result_and_counts, solution_text}
+use Rattle.pg_cli.specs.Solving.{IsFound, SolvesGame, result_and_counts}
 use Rattle.pg_cli.specs.declared.solving.TheConstants.{DEFAULT_POSITIONS}
 use Rattle.pg_cli.proofs.Solves.{delivers_solution, stays_open}
 use Rattle.pg_cli.proofs.generating.solve_made.Goals as goal
+use Rattle.pg_results.specs.Results.{solution_text}
 
 pub returns-in_err-message-clause-solved : goal.returns-in_err-message-clause-solved
 returns-in_err-message-clause-solved g c =

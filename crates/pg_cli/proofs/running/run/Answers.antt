@@ -1,6 +1,7 @@
 use Rattle.std.proofs.Common.{map, string_bytes}
 use Rattle.pg_cli.specs.Commands.{IsLacking, asked}
-use Rattle.pg_cli.proofs.Ending.{cause_done, cause_early, meaningless_early, ran_done, ran_early}
+use Rattle.pg_results.proofs.Causes.{cause_early}
+use Rattle.pg_cli.proofs.Ending.{cause_done, meaningless_early, ran_done, ran_early}
 use Rattle.pg_cli.proofs.Ending.{silent_done, silent_early, status_done, status_early}
 use Rattle.pg_cli.proofs.Forced.{forced_ran}
 use Rattle.pg_cli.proofs.InTime.{in_time_early}

@@ -1,10 +1,11 @@
 use Rattle.std.proofs.Common.{[], ◌∷◌, Option, refl, sym, ap, subst}
 use Rattle.pg_cli.proofs.Common.{err_from_is_err_and, Bytes, Memory, Cert, message_text}
 use Rattle.pg_cli.proofs.Common.{unknown_text, Message, budget, stopped_first}
-use Rattle.pg_cli.specs.Solving.{IsFileOf, IsFound, SolvesGame, result_alone}
-use Rattle.pg_cli.proofs.Differing.{solution_differs}
+use Rattle.pg_cli.specs.Solving.{IsFound, SolvesGame, result_alone}
+use Rattle.pg_results.proofs.Differing.{solution_differs}
 use Rattle.pg_cli.proofs.Solves.{delivers_solution, stays_open}
 use Rattle.pg_cli.proofs.solving.solve_game.Goals as goal
+use Rattle.pg_results.specs.Results.{IsFileOf}
 
 pub returns-in_err-message-clause-solved : goal.returns-in_err-message-clause-solved
 returns-in_err-message-clause-solved g c =

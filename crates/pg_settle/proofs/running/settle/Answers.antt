@@ -1,7 +1,7 @@
-use Rattle.pg_cli.proofs.Ending.{cause_done, cause_early, finishes, silent_done, silent_early}
-use Rattle.pg_cli.proofs.Ending.{status_done, status_early}
+use Rattle.pg_results.proofs.Causes.{cause_early}
+use Rattle.pg_results.proofs.GameRuns.{cause_done, finishes, silent_done, silent_early}
+use Rattle.pg_results.proofs.GameRuns.{status_done, status_early}
 use Rattle.pg_talk.specs.Opening.{IsGameLacking}
-use Rattle.pg_settle.specs.Runs.{as_solve}
 use Rattle.pg_settle.proofs.Announced.{announced}
 use Rattle.pg_settle.proofs.Ending.{ran_done, ran_early}
 use Rattle.pg_settle.specs.Settling.{form_of}
@@ -13,8 +13,7 @@ returns-in-Ok-clause-ran g c = ran_done (g.S.Finder.brings c.args.finder.now)
     c.args.order.certificate.now c.args.order.budget (g.F.Files.told c.args.files.now)
     (g.F.Files.told c.carry_out.new.files) (g.C.Console.told c.args.console.now)
     (g.C.Console.told c.carry_out.new.console) c.in-Ok.status
-    (finishes (as_solve c.args.order.game.now c.args.order.certificate.now) c.in-Ok.status
-    c.in-Ok.ensures.gives) c.in-Ok.ensures.ran
+    (finishes c.in-Ok.status c.in-Ok.ensures.gives) c.in-Ok.ensures.ran
 
 pub returns-in-Ok-clause-forced : goal.returns-in-Ok-clause-forced
 returns-in-Ok-clause-forced g c = announced (g.S.Finder.brings c.args.finder.now)
@@ -27,24 +26,23 @@ returns-in-Ok-clause-forced g c = announced (g.S.Finder.brings c.args.finder.now
     c.args.order.certificate.now c.args.order.budget (g.F.Files.told c.args.files.now)
     (g.F.Files.told c.carry_out.new.files) (g.C.Console.told c.args.console.now)
     (g.C.Console.told c.carry_out.new.console) c.in-Ok.status
-    (finishes (as_solve c.args.order.game.now c.args.order.certificate.now) c.in-Ok.status
-    c.in-Ok.ensures.gives) c.in-Ok.ensures.ran)
+    (finishes c.in-Ok.status c.in-Ok.ensures.gives) c.in-Ok.ensures.ran)
 
 pub returns-in-Ok-clause-silent : goal.returns-in-Ok-clause-silent
 returns-in-Ok-clause-silent g c =
-    silent_done (as_solve c.args.order.game.now c.args.order.certificate.now)
+    silent_done
     (g.C.Console.told c.args.console.now) (g.C.Console.told c.carry_out.new.console)
     c.in-Ok.status c.in-Ok.ensures.gives
 
 pub returns-in-Ok-clause-statuses : goal.returns-in-Ok-clause-statuses
 returns-in-Ok-clause-statuses g c =
-    status_done (as_solve c.args.order.game.now c.args.order.certificate.now) c.in-Ok.status
+    status_done c.in-Ok.status
     c.in-Ok.ensures.gives
 
 pub returns-in-Ok-clause-causes : goal.returns-in-Ok-clause-causes
 returns-in-Ok-clause-causes g c =
     cause_done (IsGameLacking (g.F.Files.told c.args.files.now).held c.args.order.game.now)
-    (as_solve c.args.order.game.now c.args.order.certificate.now) (g.F.Files.told c.args.files.now)
+    (g.F.Files.told c.args.files.now)
     (g.F.Files.told c.carry_out.new.files) (g.C.Console.told c.args.console.now)
     (g.C.Console.told c.carry_out.new.console) c.in-Ok.status c.in-Ok.ensures.causes
     c.in-Ok.ensures.gives
@@ -72,14 +70,14 @@ returns-in-Err-clause-forced g c = announced (g.S.Finder.brings c.args.finder.no
 
 pub returns-in-Err-clause-silent : goal.returns-in-Err-clause-silent
 returns-in-Err-clause-silent g c =
-    silent_early (as_solve c.args.order.game.now c.args.order.certificate.now)
+    silent_early
     (g.C.Console.told c.args.console.now) (g.C.Console.told c.carry_out.new.console)
     (g.C.Console.told c.end_early.new.console) c.in-Err.halt c.end_early.result
     c.in-Err.ensures.quiet c.end_early.ensures
 
 pub returns-in-Err-clause-statuses : goal.returns-in-Err-clause-statuses
 returns-in-Err-clause-statuses g c =
-    status_early (as_solve c.args.order.game.now c.args.order.certificate.now)
+    status_early
     (g.C.Console.told c.carry_out.new.console) (g.C.Console.told c.end_early.new.console)
     c.in-Err.halt c.end_early.result c.in-Err.ensures.gives c.end_early.ensures
 

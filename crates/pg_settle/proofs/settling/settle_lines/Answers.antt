@@ -106,8 +106,8 @@ returns-clause-settled g c =
     c.args.order.certificate.now budget (g.F.Files.told c.args.files.now)
     (g.F.Files.told c.args.files.now) (g.C.Console.told c.args.console.now)
     (g.C.Console.told c.say_text.new.console) answer.expanded c.as_str.result.now
-    (answer_of brings played budget answer c.in_ok-found.ensures.answered _ answer.expanded c.in-Open.is
-    refl) (c.as_str.ensures.value ∙ c.in_ok-said-in-Open.ensures) refl
+    (answer_of brings played budget answer c.in_ok-found.ensures.answered _ answer.expanded
+    c.in-Open.is refl) (c.as_str.ensures.value ∙ c.in_ok-said-in-Open.ensures) refl
     c.in_ok-say_text-in-Open.ensures.said c.in_ok-say_text-in-Open.ensures.left
 
 pub file_of-requires-clause-valid : goal.file_of-requires-clause-valid

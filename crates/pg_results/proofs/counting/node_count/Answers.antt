@@ -1,7 +1,7 @@
 use Rattle.std.proofs.Common.{◌≤◌, ◌+◌, List, length, take, sym, ap, subst, arith}
-use Rattle.pg_cli.proofs.Common.{sum_by-take-le, node_count, Claim, MAX_NODES}
-use Rattle.pg_cli.proofs.Making.{counted_more}
-use Rattle.pg_cli.proofs.generating.node_count.Goals as goal
+use Rattle.pg_results.proofs.Common.{sum_by-take-le, node_count, Claim, MAX_NODES}
+use Rattle.pg_results.proofs.Counts.{counted_more}
+use Rattle.pg_results.proofs.counting.node_count.Goals as goal
 
 pub overflow_add-count : goal.overflow_add-count
 overflow_add-count c =

@@ -1,9 +1,11 @@
 -- The file of a folded certificate.
 use Rattle.std.proofs.Common.{◌≡◌, ◌∙◌, List, [], ◌∷◌, map, true, refl, ap, ap₂, inl}
-use Rattle.pg_cli.proofs.Common.{AllZip, Goal, Side, IsValid, Cert, Claim, IsSameClaim, FoldsWell}
-use Rattle.pg_cli.proofs.Common.{Game, IsImageWithinLimits, printed_image_certificate, ImageCert}
-use Rattle.pg_cli.proofs.Common.{Bytes, Heading, heading, AreSound, IsUnfoldedCert, Unfolded}
-use Rattle.pg_cli.specs.Solving.{IsFileOf}
+use Rattle.pg_results.proofs.Common.{AllZip, Goal, Side, IsValid, Cert, Claim, IsSameClaim}
+use Rattle.pg_results.proofs.Common.{FoldsWell}
+use Rattle.pg_results.proofs.Common.{Game, IsImageWithinLimits, printed_image_certificate}
+use Rattle.pg_results.proofs.Common.{ImageCert}
+use Rattle.pg_results.proofs.Common.{Bytes, Heading, heading, AreSound, IsUnfoldedCert, Unfolded}
+use Rattle.pg_results.specs.Results.{IsFileOf}
 
 abbrev headed : Side → Side → Goal → Heading
 headed turn side goal = record { turn = turn; side = side; goal = goal }

@@ -1,7 +1,7 @@
-//! The file of a certificate that solving has found.
+//! The file of a certificate that shows a result.
 ghost use Rattle.std.specs.Prelude.{IfOk, Some};
-ghost use Rattle.pg_cli.specs.Prelude.{IsWithinLimits, IsValid, DifferInPosition};
-ghost use Rattle.pg_cli.specs.Solving.{IsFileOf};
+ghost use Rattle.pg_results.specs.Prelude.{IsWithinLimits, IsValid, DifferInPosition};
+ghost use Rattle.pg_results.specs.Results.{IsFileOf};
 
 use pg_base::Memory;
 use pg_cert::{Cert, print_cert};
@@ -11,9 +11,13 @@ use pg_game::Game;
 use pg_image::print_image;
 use std::alloc::Global;
 
-/// The text of a certificate; where images are asked for, that of the folded one, unless no turn or
+/// Returns the text of the certificate; with images, that of the folded one, unless no turn or
 /// reflection of the board but the one of number 0 fits the game, or a claim of the folded one, or
 /// all together, have too many nodes unfolded.
+///
+/// # Errors
+///
+/// `Memory` if memory runs out.
 pub fn print_solution(
     alloc: Global,
     game: &Game,

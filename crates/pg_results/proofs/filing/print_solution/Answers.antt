@@ -1,12 +1,9 @@
-use Rattle.std.proofs.Common.{ℕ, Option, inl, subst}
+use Rattle.std.proofs.Common.{ℕ, Option, subst}
 use Rattle.std.specs.Prelude.{IfSome}
+use Rattle.pg_results.proofs.Common.{IfOk-weaker, IsFoldedWell, IsImageWithinLimits, ImageCert}
 use Rattle.std.specs.Global.{Vec}
-use Rattle.pg_cli.proofs.FoldedFiles.{folded_file}
-use Rattle.pg_fold.specs.Symmetry.{IsFoldedWell}
-use Rattle.pg_image.specs.Limits.{IsImageWithinLimits}
-use Rattle.pg_image.specs.declared.cert.ImageCert.{ImageCert}
-use Rattle.pg_settle.proofs.Common.{IfOk-weaker}
-use Rattle.pg_settle.proofs.filing.file_of.Goals as goal
+use Rattle.pg_results.proofs.FoldedFiles.{folded_file}
+use Rattle.pg_results.proofs.filing.print_solution.Goals as goal
 
 pub returns-in-Some : goal.returns-in-Some
 returns-in-Some c =
@@ -21,6 +18,6 @@ returns-in-Some c =
     let sound = stay.sound g cert d c.requires.limits c.requires.valid well.folded in
     rw c.if-not-images.false
     (IfOk-weaker _ _ _
-    (λ (text : Vec ℕ) is. inl (folded_file g cert d text.items well sound limits
+    (λ (text : Vec ℕ) is. folded_file g cert d text.items well sound limits
     (λ u unfolded. stay.valid g cert d u c.requires.limits c.requires.valid well.folded unfolded)
-    (λ u unfolded. stay.claims g cert d u well.folded unfolded) is)) c.print_image.ensures)
+    (λ u unfolded. stay.claims g cert d u well.folded unfolded) is) c.print_image.ensures)

@@ -1,10 +1,10 @@
-//! How many nodes a certificate has.
+//! The nodes of a certificate.
 ghost use Rattle.std.specs.Prelude.{◌≡◌, ◌≤◌};
-ghost use Rattle.pg_settle.specs.Prelude.{MAX_NODES, node_count};
+ghost use Rattle.pg_results.specs.Prelude.{node_count, MAX_NODES};
 
 use pg_cert::Cert;
 
-/// Returns how many nodes the claims of a certificate have together, at most `MAX_NODES`.
+/// Returns how many nodes the claims of the certificate have together, at most 200,000.
 pub fn node_count(certificate: &Cert) -> u32
     requires { node_count certificate.now.claims ≤ MAX_NODES }
     ensures { result ≡ node_count certificate.now.claims }

@@ -1,7 +1,7 @@
 -- The nodes of a claim that solving has found differ in position.
 use Rattle.std.proofs.Common.{◌≡◌, ℕ, zero, suc, List, [], ◌∷◌, Some, slice_get, refl, sym, subst}
-use Rattle.pg_cli.proofs.Common.{Cert, Claim, DifferInPosition, HaveDifferentPositions, Game}
-use Rattle.pg_cli.proofs.Common.{Position, IsShown, certificate_of, Solution, Value, Unknown}
+use Rattle.pg_results.proofs.Common.{Cert, Claim, DifferInPosition, HaveDifferentPositions, Game}
+use Rattle.pg_results.proofs.Common.{Position, IsShown, certificate_of, Solution, Value, Unknown}
 use Rattle.pg_base.specs.declared.score.Score.TheVariants.{XWins, Draw, YWins}
 use Rattle.pg_cert.specs.declared.node.Node.{Node}
 use Rattle.pg_solve.specs.declared.solution.Solution.TheVariants.{Class as ForClass}

@@ -1,0 +1,4 @@
+pub mod Prelude
+pub mod Results
+pub mod Ending
+pub mod GameRuns
