@@ -1,0 +1,3 @@
+pub mod Html
+pub mod Reader
+pub mod Events
