@@ -2,12 +2,13 @@
 """Runs the programs on the worst small inputs that are known, within the limits of the formats, and
 measures each run on one processor: processor seconds and greatest memory, each with its limit.
 
-    bench/worst.py [PROGRAM] [--draw PROGRAM] [--keep FOLDER] [--rows LETTERS]
+    bench/worst.py [PROGRAM] [--draw PROGRAM] [--keep FOLDER] [--rows LETTERS] [--slower X]
 
 Each row has a letter; letters choose some rows, and --draw names posgame-draw. The files of a row
 are made by a function of this script in a temporary folder, or in FOLDER, where they stay. A run is
-ended at four times its limit of seconds. The status is 1 if a row is above a limit or ends with
-another status than expected. Unproved.
+ended at four times its limit of seconds. The limits of seconds are for one machine, as those of
+bench/first_minutes.py are; on one that is X times as slow they are X times as high. The status is 1
+if a row is above a limit or ends with another status than expected. Unproved.
 """
 from __future__ import annotations
 
@@ -180,19 +181,20 @@ ROWS = [
 ]
 
 
-def measured(program: str, row: Row, keep: str) -> kit.Run:
+def measured(program: str, row: Row, keep: str, limit: float) -> kit.Run:
     """Makes a row's files, and runs the program on them."""
     kept = pathlib.Path(keep, row.letter)
     with contextlib.nullcontext(kept) if keep else kit.files() as folder:
         folder.mkdir(parents=True, exist_ok=True)
         for name, text in row.make().items():
             (folder / name).write_text(text, encoding="ascii")
-        return kit.run(program, *row.words.split(), folder=folder, most=int(4 * row.seconds) + 1)
+        return kit.run(program, *row.words.split(), folder=folder, most=int(4 * limit) + 1)
 
 
 def main() -> int:
     given = kit.options(__doc__, draw=("", "the program posgame-draw"), rows=("", "their letters"),
-                        keep=("", "the folder of the files"))
+                        keep=("", "the folder of the files"),
+                        slower=(1.0, "how many times as slow the machine is"))
     os.sched_setaffinity(0, {min(os.sched_getaffinity(0))})
     table = kit.Table("row", kit.Column("s", ".2f"), kit.Column("limit", "g"), "MB", "limit")
     for row in (it for it in ROWS if not given.rows or it.letter in given.rows):
@@ -200,9 +202,10 @@ def main() -> int:
         if row.words == DRAW:
             program = given.draw and kit.program_path(given.draw)
         if program:
-            done = measured(program, row, given.keep)
+            limit = row.seconds * given.slower
+            done = measured(program, row, given.keep, limit)
             wrong = [] if done.status in row.statuses else [f"status {done.status}"]
-            table.row(name, (done.processor, row.seconds), row.seconds,
+            table.row(name, (done.processor, limit), limit,
                       (done.megabytes, row.megabytes), row.megabytes, wrong=wrong)
         else:
             table.row(name, "not run, without posgame-draw")
