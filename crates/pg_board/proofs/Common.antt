@@ -14,13 +14,15 @@ pub use Rattle.pg_board.specs.Prelude.{vec_capacity, vec_len, weight, without, x
 pub use Rattle.pg_board.specs.Prelude.{x_takes_last, y_after}
 unfoldable pub use Rattle.pg_board.specs.Prelude.{avoider_holds, free_points, full_weight, is_over}
 unfoldable pub use Rattle.pg_board.specs.Prelude.{line_weight, outcome, point_weight}
-unfoldable pub use Rattle.pg_board.specs.Prelude.{potential_holds, settled, total_weight, with_set}
+unfoldable pub use Rattle.pg_board.specs.Prelude.{potential_holds, settled, total_weight}
+unfoldable pub use Rattle.pg_board.specs.Prelude.{with_cell, with_set}
 pub use Rattle.pg_game.proofs.LineSums.{full_weight-is, length-le-greatest, points-le}
 pub use Rattle.pg_game.proofs.Moves.{free-of, some_bias}
 pub use Rattle.pg_game.proofs.WeightBounds.{bias-few, bias-le, few_lines, few_points-lines}
 pub use Rattle.pg_game.proofs.WeightBounds.{greatest_length-few, line_weight-le}
 pub use Rattle.pg_undo.proofs.Extending.{extends-back, extends-both, extends-none, extends-set}
 pub use Rattle.pg_undo.proofs.Finding.{first_of_all}
+pub use Rattle.pg_undo.proofs.Undoing.{back_to-with_cell, with_cell-twice}
 pub use Rattle.std.proofs.Math.Nat.{add-mul, pow-le-pow_left, pow-le-pow_right, pow-suc, pow-zero}
 pub use Rattle.std.proofs.lemmas.Bool.{and_cases, and_from, and_left, and_parts, and_right}
 pub use Rattle.std.proofs.lemmas.Bool.{cases_Bool, cases_eq, cases_lt, eq-eqb, eqb-true, false≢true}

@@ -6,8 +6,8 @@ use Rattle.pg_board.proofs.Common.{cases_eq, eq-eqb, ne_eqb, and_right, get_or-s
 use Rattle.pg_board.proofs.Common.{get_or-set_other, length-set, length_push, take_all, take_at}
 use Rattle.pg_board.proofs.Common.{Contains, contains, one_if, Side, X, Y, other, is_same_side}
 use Rattle.pg_board.proofs.Common.{is_free, points_of, after_with, is_on, present, without, Cells}
-use Rattle.pg_board.proofs.Common.{with_set, back_to, Extends, extends-set, extends-both}
-use Rattle.pg_board.proofs.Common.{extends-back}
+use Rattle.pg_board.proofs.Common.{with_set, with_cell, back_to, Extends, extends-set}
+use Rattle.pg_board.proofs.Common.{extends-both, extends-back, back_to-with_cell}
 use Rattle.pg_board.specs.Shape.{Shape, line_in, lines_through, degree_in, turn_cell, mark_cell}
 use Rattle.pg_board.specs.Shape.{count_cell, free_cell, cell_count}
 use Rattle.pg_board.specs.Counts.{AreCounted, count_in, lines_with, is_clear, clear_lines}
@@ -73,6 +73,18 @@ open-lines r t x y free v fits low is i i_low on =
     let some = some-at v (line_in s i) on in
     omega (arith, fits.counts X i i_low, fits.counts Y i i_low)
 
+-- a free point leaves room in the trail
+pub room-now : (r : Rules) (t : Cells) (x y free : List (List ℕ)) (v : ℕ)
+    → Fits r t x y free
+    → v < r.shape.points
+    → is_free (position_of r.shape t.cells) v ≡ true
+    → 2 + 4 * degree_in r.shape v ≤ t.spare
+room-now r t x y free v fits low is =
+    let p = position_of r.shape t.cells in
+    let sum = summed-without (entries_of r.shape) (is_free p) (is_free (after_with r.bias p v)) v
+    r.shape.points low is (free-gone r.bias p v) (λ q q_low apart. free-other r.bias p v q apart) in
+    omega (arith, fits.room)
+
 module _ (r : Rules) (t t2 now : Cells) (x y free x2 y2 free2 : List (List ℕ)) (v : ℕ) (side : Side)
     (fits : Fits r t x y free) (mover : side ≡ turn_of (get_or t.cells turn_cell 0))
     (low : v < r.shape.points) (is : is_free (position_of r.shape t.cells) v ≡ true)
@@ -103,24 +115,37 @@ module _ (r : Rules) (t t2 now : Cells) (x y free x2 y2 free2 : List (List ℕ))
       (next_turn r.bias (get_or t2.cells turn_cell 0)) 0 some
       ∙ get_or-set_other h.between.cells (mark_cell v) k (mark_of side) 0 apart)
 
+  extends-claimed : Extends (4 * degree_in r.shape v + 1) t t2
+  extends-claimed =
+      let room = room-now r t x y free v fits low is in
+      let one = h.lines.trail in
+      let marked = extends-set h.between (mark_cell v) (mark_of side)
+      (omega (arith, room, one.spare, one.bound)) in
+      subst (λ c. Extends (4 * degree_in r.shape v + 1) t c) (sym h.mark)
+      (extends-both (4 * degree_in r.shape v) 1 t h.between _ one marked)
+
+  claimed-room : 1 ≤ t2.spare
+  claimed-room =
+      let room = room-now r t x y free v fits low is in
+      let whole = extends-claimed in
+      omega (arith, room, whole.spare, whole.bound)
+
   pub extends-now : Extends (4 * degree_in r.shape v + 2) t now
   extends-now =
-      let one = h.lines.trail in
-      let fewer_room = fits.room in
-      let sum = summed-without (entries_of r.shape) (is_free (position_of r.shape t.cells))
-      (is_free (after_with r.bias (position_of r.shape t.cells) v)) v r.shape.points low is
-      (free-gone r.bias (position_of r.shape t.cells) v)
-      (λ q q_low apart. free-other r.bias (position_of r.shape t.cells) v q apart) in
-      let first = extends-both (4 * degree_in r.shape v) 1 t h.between _ one
-      (extends-set h.between (mark_cell v) (mark_of side) (omega (arith, one.spare, one.bound))) in
-      let second : Extends (4 * degree_in r.shape v + 1) t t2 =
-      subst (λ c. Extends (4 * degree_in r.shape v + 1) t c) (sym h.mark) first in
-      let third = extends-both (4 * degree_in r.shape v + 1) 1 t t2 _ second
-      (extends-set t2 turn_cell (next_turn r.bias (get_or t2.cells turn_cell 0))
-      (omega (arith, second.spare, second.bound))) in
+      let third = extends-both (4 * degree_in r.shape v + 1) 1 t t2 _ extends-claimed
+      (extends-set t2 turn_cell (next_turn r.bias (get_or t2.cells turn_cell 0)) claimed-room) in
       let same : 4 * degree_in r.shape v + 1 + 1 ≡ 4 * degree_in r.shape v + 2 = omega arith in
       subst (λ k. Extends k t now) same
       (subst (λ c. Extends (4 * degree_in r.shape v + 1 + 1) t c) (sym passed) third)
+
+  -- the play is taken back whatever the cell of the turn holds
+  turn-any : (n : ℕ)
+      → back_to (length t.entries) (with_cell now turn_cell n) ≡ back_to (length t.entries) now
+  turn-any n = subst (λ (c : Cells).
+      back_to (length t.entries) (with_cell c turn_cell n) ≡ back_to (length t.entries) c)
+      (sym passed)
+      (back_to-with_cell (length t.entries) t2 turn_cell
+      (next_turn r.bias (get_or t2.cells turn_cell 0)) n extends-claimed.more claimed-room)
 
   turn-was : get_or t2.cells turn_cell 0 ≡ get_or t.cells turn_cell 0
   turn-was =
@@ -313,6 +338,7 @@ module _ (r : Rules) (t t2 now : Cells) (x y free x2 y2 free2 : List (List ℕ))
           lists = λ k. rw back (shorter k).0;
           free_lists = (let some = fits.some_free in omega arith);
           one_more = ap (λ (ls : List (List ℕ)). length (present ls)) free-fewer ∙ sym one;
+          turn = turn-any;
         };
         trail = back;
         x_back = shorter_x.1;
@@ -370,17 +396,6 @@ pub some-cells : (r : Rules) (t : Cells) (x y free : List (List ℕ))
     → 1 ≤ length t.cells
 unfolding cell_count
 some-cells r t x y free fits = omega (arith, fits.counted.width)
-
-pub room-now : (r : Rules) (t : Cells) (x y free : List (List ℕ)) (v : ℕ)
-    → Fits r t x y free
-    → v < r.shape.points
-    → is_free (position_of r.shape t.cells) v ≡ true
-    → 2 + 4 * degree_in r.shape v ≤ t.spare
-room-now r t x y free v fits low is =
-    let p = position_of r.shape t.cells in
-    let sum = summed-without (entries_of r.shape) (is_free p) (is_free (after_with r.bias p v)) v
-    r.shape.points low is (free-gone r.bias p v) (λ q q_low apart. free-other r.bias p v q apart) in
-    omega (arith, fits.room)
 
 pub free-now : (r : Rules) (t : Cells) (x y free : List (List ℕ)) (v : ℕ)
     → Fits r t x y free

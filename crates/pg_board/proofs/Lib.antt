@@ -24,3 +24,4 @@ pub mod Weighing
 pub mod Deciding
 pub mod Judging
 pub mod Gathering
+pub mod Passing

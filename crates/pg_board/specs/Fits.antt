@@ -4,7 +4,7 @@ use Rattle.std.specs.Prelude.{List, [], ◌∷◌, ◌++◌, length, get_or, tak
 use Rattle.pg_board.specs.Prelude.{count_by, filter, range_with_len, FinSet, empty, insert}
 use Rattle.pg_board.specs.Prelude.{contains, nat_cmp, MAX_LINE_POINTS, Switching, Side, X, Y, Game}
 use Rattle.pg_board.specs.Prelude.{Position, is_free, points_of, after_with, is_touched}
-use Rattle.pg_board.specs.Prelude.{is_same_side, present, Cells, back_to}
+use Rattle.pg_board.specs.Prelude.{is_same_side, present, Cells, back_to, with_cell}
 use Rattle.pg_board.specs.Board.{Stand}
 use Rattle.pg_board.specs.Shape.{Shape, IsShape, shape_of, line_in, lines_through, degree_in}
 use Rattle.pg_board.specs.Shape.{turn_cell, mark_cell}
@@ -125,7 +125,7 @@ left_by s cells k v = if is_same_side k (turn_of (get_or cells turn_cell 0))
 abbrev pub fewer : ℕ → List (List ℕ) → List (List ℕ)
 fewer k lists = take (length lists - k) lists
 
--- a play that can be taken back
+-- a play that can be taken back, whatever the cell of the turn holds now
 pub record IsPlayed (r : Rules) (t : Cells) (x y free : List (List ℕ))
     (play : Played) : Type 0 where
   pub level : play.level ≤ length t.entries
@@ -134,6 +134,7 @@ pub record IsPlayed (r : Rules) (t : Cells) (x y free : List (List ℕ))
       → left_by r.shape (back_to play.level t).cells k play.point < length (pick k x y)
   pub free_lists : 2 ≤ length free
   pub one_more : length (present (fewer 1 free)) ≡ length (present free) + 1
+  pub turn : (n : ℕ) → back_to play.level (with_cell t turn_cell n) ≡ back_to play.level t
 
 -- the play leads from the one to the other, and back
 pub record PlaysBack (r : Rules) (t : Cells) (x y free : List (List ℕ)) (now : Cells)

@@ -11,3 +11,4 @@ pub mod Opening
 pub mod Near
 pub mod Totals
 pub mod Gathered
+pub mod Passing

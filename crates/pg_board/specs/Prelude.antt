@@ -25,7 +25,7 @@ pub use Rattle.pg_game.specs.declared.position.Position.{Position}
 pub use Rattle.pg_undo.specs.Extends.{Extends}
 pub use Rattle.pg_undo.specs.Ring.{present, without}
 pub use Rattle.pg_undo.specs.Trail.{Cells, back_to}
-unfoldable pub use Rattle.pg_undo.specs.Trail.{settled, with_set}
+unfoldable pub use Rattle.pg_undo.specs.Trail.{settled, with_cell, with_set}
 pub use Rattle.std.specs.FinSet.{FinSet, contains, contains-empty, empty, insert}
 pub use Rattle.std.specs.List.{All, Contains, count_by, filter, find, list_all, list_any}
 pub use Rattle.std.specs.List.{range_with_len, slice_get, sum_by}

@@ -9,13 +9,14 @@ ghost use Rattle.pg_board.specs.Prelude.{avoider_weight, avoider_holds};
 ghost use Rattle.pg_game.specs.Decided.{by_end, defends};
 ghost use Rattle.pg_board.specs.Board.{line_at, degree, count_of, live_lines, live_with};
 ghost use Rattle.pg_board.specs.Near.{IsNearest, NoneNear};
+ghost use Rattle.pg_board.specs.Passing.{IsPassed};
 ghost use Rattle.pg_board.specs.Shape.{lines_holding};
 
 use crate::decided::{self, has_filled};
 use crate::layout::Layout;
 use crate::opening::{blank_trail, open_marks, turn_code};
 use crate::plays::{Played, play_point, undo_play};
-use crate::points::{free_point, is_unmarked, left, marked, turn};
+use crate::points::{free_point, hand_over, is_unmarked, left, marked, turn};
 use crate::rings::{Rings, whole_rings};
 use crate::totals;
 use pg_base::{Kind, Memory, Score, Side};
@@ -126,6 +127,15 @@ impl<'a> Board<'a> {
             &mut self.rings,
             play,
         );
+    }
+
+    /// Passes the turn: the other side is to move, where each claims one point a turn, and nothing
+    /// else changes. Passed once more, the board stands as before. It takes no memory.
+    pub fn pass(&mut self)
+        requires { self.old.game.bias ≡ 1 }
+        ensures { IsPassed self.old self.new }
+    {
+        hand_over(&mut self.trail);
     }
 
     /// How many plays stand.

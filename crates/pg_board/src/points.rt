@@ -1,6 +1,7 @@
 //! A point that a side claims, and the turn that passes.
 ghost use Rattle.std.specs.Prelude.{◌≡◌, ◌<◌, ◌≤◌, ◌+◌, ◌*◌, ◌^◌, ℕ, true, length, get_or};
-ghost use Rattle.pg_board.specs.Prelude.{Contains, find, X, Y, is_on, present, with_set};
+ghost use Rattle.pg_board.specs.Prelude.{Contains, find, X, Y, is_on, present, with_cell, with_set};
+ghost use Rattle.pg_board.specs.Passing.{other_turn};
 ghost use Rattle.pg_board.specs.Near.{has_none};
 ghost use Rattle.pg_board.specs.Shape.{line_in, degree_in, turn_cell, mark_cell, cell_count};
 ghost use Rattle.pg_board.specs.Counts.{AreCounted, count_in, clear_lines};
@@ -117,4 +118,14 @@ pub(crate) fn pass(trail: &mut Trail, bias: u8)
 {
     let left = trail.get(0);
     trail.set(0, if left == 0 { u32::from(bias) } else { left - 1 });
+}
+
+/// The other side is to move, where each side claims one point a turn. Nothing is written down.
+pub(crate) fn hand_over(trail: &mut Trail)
+    requires { 1 ≤ length trail.old.cells }
+    ensures { trail.new
+        ≡ with_cell trail.old turn_cell (other_turn (get_or trail.old.cells turn_cell 0)) }
+{
+    let turn = trail.get(0);
+    trail.put(0, if turn == 0 { 1 } else { 0 });
 }

@@ -1,23 +1,24 @@
 -- What counts at a position say of the position after a move.
-use Rattle.std.proofs.Common.{◌≡◌, ◌≢◌, ℕ, ◌+◌, ◌-◌, ◌*◌, ◌<◌, ◌≤◌, Bool, true, false, not, ◌&&◌}
+use Rattle.std.proofs.Common.{◌≡◌, ◌≢◌, ℕ, ◌+◌, ◌-◌, ◌*◌, ◌<◌, ◌≤◌, Bool, true, false, not}
 use Rattle.std.proofs.Common.{◌==◌}
 use Rattle.std.proofs.Common.{◌⊎◌, List, [], ◌∷◌, length, refl, sym, ap, ◌∙◌, subst, inl, inr}
 use Rattle.std.proofs.Common.{arith, cond, if◌then◌else◌, ltb, ◌^◌}
-use Rattle.pg_leaf.proofs.Common.{cases_Bool, false≢true, cond-true, and_from}
-use Rattle.pg_leaf.proofs.Common.{false_from_ne_true, Contains, count_by}
+use Rattle.pg_leaf.proofs.Common.{cases_Bool, cases_eq, false≢true, cond-true}
+use Rattle.pg_leaf.proofs.Common.{false_from_ne_true, count_by}
 use Rattle.pg_leaf.proofs.Common.{range_with_len, MakerBreaker, MakerMaker, AvoiderEnforcer}
 use Rattle.pg_leaf.proofs.Common.{Switching, Score, Side, Game, Position, View, has_filled}
-use Rattle.pg_leaf.proofs.Common.{short_joins, after, is_free, points_of, is_touched, lines_of}
-use Rattle.pg_leaf.proofs.Common.{free_points, IsPosition, may_attack, defender}
+use Rattle.pg_leaf.proofs.Common.{short_joins, after, points_of, is_touched, lines_of}
+use Rattle.pg_leaf.proofs.Common.{free_points, IsPosition, IsThreatLine, may_attack, defender}
 use Rattle.pg_leaf.proofs.Common.{defends, attack_wins, pairs_exist, breaker_of, live_lines}
-use Rattle.pg_leaf.proofs.Common.{live_with, is_live_with, line_at, member-from_any, Contains-head}
-use Rattle.pg_leaf.proofs.Common.{Contains-tail, same_some}
+use Rattle.pg_leaf.proofs.Common.{live_with, line_at, member-from_any}
+use Rattle.pg_leaf.proofs.Common.{same_some}
 use Rattle.std.specs.Prelude.{Option, Some, None, IfSome}
 use Rattle.std.specs.FinSet.{FinSet, contains, insert}
 use Rattle.std.specs.List.{list_all, sum_by}
 use Rattle.std.specs.Ordering.{nat_cmp}
 use Rattle.std.proofs.lemmas.Bool.{le-ltb, lt-ltb, or_parts, and_parts, not-true, not_from_false}
-use Rattle.std.proofs.lemmas.Bool.{eqb-true, eq-eqb}
+use Rattle.std.proofs.lemmas.Bool.{eq-eqb}
+use Rattle.std.proofs.Math.Nat.{add-mul, mul-le-mul_left, mul-le-mul_right}
 use Rattle.std.proofs.lemmas.List.Sums.{length-filter, sum_by-cons}
 use Rattle.pg_base.specs.declared.kind.Kind.{Kind}
 use Rattle.pg_base.specs.declared.side.Side.TheVariants.{X, Y}
@@ -26,22 +27,29 @@ use Rattle.pg_board.specs.Board.{degree}
 use Rattle.pg_board.proofs.Digits.{count-all}
 use Rattle.pg_game.specs.Avoider.{avoider_holds, x_takes_last}
 use Rattle.pg_game.specs.Game.{all_touched, can_join, is_full, is_empty, is_over, is_over_by}
-use Rattle.pg_game.specs.Potential.{IsBaseOf, full_weight, greatest_length, is_on, line_weight}
-use Rattle.pg_game.specs.Potential.{point_weight, potential_holds, times_counted, total_weight}
-use Rattle.pg_game.proofs.FreePoints.{is_free-after, length-free_points-after}
-use Rattle.pg_game.proofs.LineSums.{line_weight-touched}
+use Rattle.pg_game.specs.Potential.{IsBaseOf, full_weight, greatest_length, greatest_weight, is_on}
+use Rattle.pg_game.specs.Potential.{line_weight, point_weight, potential_holds, times_counted}
+use Rattle.pg_game.specs.Potential.{total_weight, weight}
+use Rattle.pg_game.proofs.FreePoints.{length-free_points-after}
+use Rattle.pg_game.proofs.Greatest.{greatest-le}
+use Rattle.pg_game.proofs.LineSums.{line_weight-touched, weight-le-total}
 use Rattle.pg_game.proofs.LineWeights.{stand_once, total-grown, total-taken, unfilled-below}
-use Rattle.pg_game.proofs.Members.{false-at, list_any-none, list_any-one}
-use Rattle.pg_game.proofs.Moves.{IsPosition-after, other_other, own-point, points-from}
-use Rattle.pg_game.proofs.Moves.{points-stay, points_of-mover, points_of-waiter, turn-alternates}
+use Rattle.pg_game.proofs.Members.{false-at, list_any-one}
+use Rattle.pg_game.proofs.Moves.{IsPosition-after, other_other, points-from}
+use Rattle.pg_game.proofs.Moves.{points_of-mover, points_of-waiter, turn-alternates}
 use Rattle.pg_game.proofs.ThreatLaws.{filled-waits, near-filled}
 use Rattle.pg_game.proofs.WeightBounds.{IsBaseOf-bias, IsBaseOf-two}
-use Rattle.pg_game.proofs.WeightBounds.{total-few}
-use Rattle.pg_threat.proofs.Deciding.{attack_wins-far}
-use Rattle.pg_threat.proofs.LineCounts.{none-lacking, one-lacked, some-counted}
+use Rattle.pg_game.proofs.WeightBounds.{bias-le, total-few}
 use Rattle.pg_game.specs.Threat.{is_race}
-use Rattle.pg_leaf.specs.Ahead.{base_for, is_avoiding, IsAhead, IsMoveOf, IsWeighed}
+use Rattle.pg_threat.proofs.Deciding.{attack_wins-biased, attack_wins-not, attack_wins-passed}
+use Rattle.pg_threat.proofs.Deciding.{attack_wins-served}
+use Rattle.pg_threat.specs.Search.{points_of_line}
+use Rattle.pg_threat.specs.Serving.{IsApart}
+use Rattle.pg_threat.specs.declared.line.ThreatLine.{ThreatLine}
+use Rattle.pg_threat.proofs.LineCounts.{none-lacking, one-lacked}
+use Rattle.pg_leaf.specs.Ahead.{base_for, is_avoiding, IsAhead, IsMoveOf, IsNext, IsWeighed}
 use Rattle.pg_leaf.specs.declared.ahead.Ahead.{Ahead}
+use Rattle.pg_leaf.specs.declared.ahead.Next.TheVariants.{Quiet, Line}
 use Rattle.pg_leaf.proofs.ShortCounts.{few-lines, none-counted}
 
 -- ---- sides
@@ -131,6 +139,29 @@ none-counted_times g q s turn left =
     self-same X = refl
     self-same Y = refl
 
+-- the greatest weight counts at most as often as Y claims points a turn
+times-few : (g : Game) (q : Position) (s : Side) → times_counted g q s ≤ g.bias
+times-few g q s = elim (cases_Bool (is_same_side s q.turn)) [
+  | inl mine ↦ rw mine (omega arith)
+  | inr yours ↦ rw yours (omega arith)
+]
+
+-- and no point weighs more than all lines
+scant-potential : (g : Game) (q : Position) (s : Side)
+    → (1 + g.bias) * total_weight (1 + g.bias) g (points_of q s) q < full_weight (1 + g.bias) g
+    → potential_holds g q s ≡ true
+unfolding potential_holds
+scant-potential g q s light =
+    let sum = total_weight (1 + g.bias) g (points_of q s) q in
+    let most = greatest_weight g q s in
+    let le : most ≤ sum = greatest-le (weight g q s) (free_points g q) sum
+    (λ v c. weight-le-total (1 + g.bias) g (points_of q s) q v) in
+    let first : times_counted g q s * most ≤ g.bias * most =
+    mul-le-mul_right most (times-few g q s) in
+    let second : g.bias * most ≤ g.bias * sum = mul-le-mul_left g.bias le in
+    lt-ltb (sum + times_counted g q s * most) (full_weight (1 + g.bias) g)
+    (omega (arith, light, first, second, add-mul 1 g.bias sum))
+
 module _ (g : Game) (t : Score) (q : Position) (side : Side) (base total limit : ℕ)
     (total_is : total ≡ total_weight base g (points_of q side) q)
     (limit_is : limit ≡ full_weight base g) where
@@ -143,6 +174,19 @@ module _ (g : Game) (t : Score) (q : Position) (side : Side) (base total limit :
 
   limit-at : (n : ℕ) → base ≡ n → limit ≡ full_weight n g
   limit-at n bases = limit_is ∙ ap (λ m. full_weight m g) bases
+
+  scant-at : (s : Side)
+      → side ≡ s
+      → base ≡ 1 + g.bias
+      → base * total < limit
+      → (1 + g.bias) * total_weight (1 + g.bias) g (points_of q s) q < full_weight (1 + g.bias) g
+  scant-at s sides bases light =
+      let total_eq = total-at (1 + g.bias) s bases sides in
+      let limit_eq = limit-at (1 + g.bias) bases in
+      let product : base * total
+      ≡ (1 + g.bias) * total_weight (1 + g.bias) g (points_of q s) q =
+      λ i. bases i * total_eq i in
+      omega (arith, product, limit_eq, light)
 
   -- where the total isn't below the limit, it doesn't hold
   pub heavy-fails : (kind : Kind)
@@ -202,6 +246,22 @@ module _ (g : Game) (t : Score) (q : Position) (side : Side) (base total limit :
       (none-counted_times g q s (sym (ap (is_same_side q.turn) sides) ∙ turn) left) below)
   light-holds AvoiderEnforcer no_ae no_sw sides bases turn left light = absurd (no_ae refl)
   light-holds Switching no_ae no_sw sides bases turn left light = absurd (no_sw refl)
+
+  -- and it does where it would if a point weighed as much as all lines
+  pub scant-holds : (kind : Kind)
+      → kind ≢ AvoiderEnforcer
+      → kind ≢ Switching
+      → side ≡ breaker_of kind (defender kind t)
+      → base ≡ base_for kind g.bias
+      → base * total < limit
+      → true ≡ defends kind g t q
+  scant-holds MakerBreaker no_ae no_sw sides bases light =
+      sym (scant-potential g q Y (scant-at Y sides bases light))
+  scant-holds MakerMaker no_ae no_sw sides bases light =
+      sym (scant-potential g q (defender MakerMaker t)
+      (scant-at (defender MakerMaker t) sides bases light))
+  scant-holds AvoiderEnforcer no_ae no_sw sides bases light = absurd (no_ae refl)
+  scant-holds Switching no_ae no_sw sides bases light = absurd (no_sw refl)
 
   -- Avoider's, by who takes the last point
   pub avoider-by : (kind : Kind) (b r : Bool)
@@ -286,23 +346,25 @@ pub limit-few : (b : View) (a : Ahead) → IsWeighed b a → a.limit ≤ 2 ^ 100
 limit-few b a w =
     let ok = base-fits b.game b.game.kind a.base w.base in omega (arith, w.limit, ok.few)
 
--- ---- counts
+-- no base is greater than 8
+base-small : (kind : Kind) (bias : ℕ) → bias ≤ 7 → base_for kind bias ≤ 8
+base-small AvoiderEnforcer bias few = omega arith
+base-small MakerBreaker bias few = omega arith
+base-small MakerMaker bias few = omega arith
+base-small Switching bias few = omega arith
 
-same-count : (f h : ℕ → Bool) (xs : List ℕ)
-    → ((x : ℕ) → Contains xs x → f x ≡ h x)
-    → count_by f xs ≡ count_by h xs
-same-count f h [] each = refl
-same-count f h (x ∷ xs) each =
-    let here : ◌≡◌ {A = ℕ} (cond (f x) 1 0) (cond (h x) 1 0) =
-    ap (λ b. cond b 1 0) (each x (Contains-head x xs)) in
-    let rest = same-count f h xs (λ y c. each y (Contains-tail x y xs c)) in
-    omega (
-      arith,
-      here,
-      rest,
-      sum_by-cons (λ y. cond (f y) 1 0) x xs,
-      sum_by-cons (λ y. cond (h y) 1 0) x xs,
-    )
+-- nor does such a product reach a limit of words
+pub scant-few : (b : View) (a : Ahead) (total : ℕ)
+    → IsWeighed b a
+    → total < a.limit
+    → a.base * total < 2 ^ 128
+scant-few b a total w light =
+    let few : a.base ≤ 8 =
+    omega (arith, w.base, base-small b.game.kind b.game.bias (bias-le b.game)) in
+    let product : a.base * total ≤ 8 * total = mul-le-mul_right total few in
+    omega (arith, product, light, limit-few b a w)
+
+-- ---- counts
 
 -- what passes the first test passes one of the others
 count-split : {A : Type 0} (f h k : A → Bool) (xs : List A)
@@ -494,68 +556,35 @@ module _ (b : View) (q : Position) (v : ℕ) (m : IsMoveOf b q v) where
 
   -- ---- threats
 
-  -- a line that the side that moved hasn't touched is as it was
-  untouched-off : (line : List ℕ)
-      → is_touched (points_of next p.turn) line ≡ false
-      → is_on v line ≡ false
-  untouched-off line clear = false_from_ne_true (is_on v line) (λ on.
-      let found = member-from_any (λ r. r == v) line on in
-      let mine = own-point g p p.turn v refl in
-      false≢true
-      (sym (false-at (contains (points_of next p.turn)) line found.0 clear found.1)
-      ∙ ap (contains (points_of next p.turn)) (eqb-true _ _ found.2)
-      ∙ mine))
+  next-turn : g.bias ≡ 1 → q.turn ≡ other p.turn
+  next-turn one =
+      ap (λ (x : Position). x.turn) m.leads ∙ turn-alternates g p v m.position one
 
-  untouched-was : (line : List ℕ)
-      → is_touched (points_of next p.turn) line ≡ false
-      → is_touched (points_of p p.turn) line ≡ false
-  untouched-was line clear = list_any-none (contains (points_of p p.turn)) line (λ r c.
-      false_from_ne_true (contains (points_of p p.turn) r) (λ on.
-      false≢true
-      (sym (false-at (contains (points_of next p.turn)) line r clear c)
-      ∙ points-stay g p p.turn v r on)))
+  -- the next side has no short threat line if it has none where the turn passes to it
+  pub no-attack : IsNext b Quiet → is_over b.game q ≡ false → attack_wins b.game q ≡ false
+  no-attack none going = elim (cases_eq g.bias 1) [
+    | inr ne ↦ attack_wins-biased g q ne
+    | inl one ↦ elim (cases_Bool (may_attack g.kind (other p.turn))) [
+      | inr off ↦ attack_wins-not g q
+          (subst (λ (s : Side). may_attack g.kind s ≡ false) (sym (next-turn one)) off)
+      | inl may ↦ subst (λ (x : Position). attack_wins g x ≡ false) (sym m.leads)
+          (attack_wins-passed g p v one m.position m.range m.free may m.going
+          (subst (λ (x : Position). is_over g x ≡ false) m.leads going)
+          (none (record { single = one; may = may })))
+    ]
+  ]
 
-  free-same : (line : List ℕ)
-      → is_on v line ≡ false
-      → count_by (is_free next) line ≡ count_by (is_free p) line
-  free-same line off = same-count (is_free next) (is_free p) line (λ r c.
-      is_free-after g p v r
-      ∙ ap (λ x. not x && is_free p r) (false-at (λ r. r == v) line r off c))
-
-  still-live : (k : ℕ) (line : List ℕ)
-      → is_live_with next p.turn k line ≡ true
-      → is_live_with p p.turn k line ≡ true
-  still-live k line on =
-      let parts = and_parts (not (is_touched (points_of next p.turn) line)) _ on in
-      let clear = not-true _ parts.0 in
-      and_from _ _ (not_from_false _ (untouched-was line clear))
-      (eq-eqb _ _ (sym (free-same line (untouched-off line clear)) ∙ eqb-true _ _ parts.1))
-
-  -- no such line comes to have so many free points
-  live-with-none : (k : ℕ) → live_with g p p.turn k ≡ 0 → live_with g q p.turn k ≡ 0
-  unfolding live_with
-  live-with-none k none = ap (λ (x : Position). live_with g x p.turn k) m.leads
-      ∙ none-counted (is_live_with next p.turn k) (lines_of g) (λ line c.
-      false_from_ne_true (is_live_with next p.turn k line) (λ on.
-      let some = some-counted (is_live_with p p.turn k) (lines_of g)
-      (list_any-one (is_live_with p p.turn k) (lines_of g) line c (still-live k line on)) in
-      absurd (omega (arith, some, none))))
-
-  -- the side to move then has no threat line
-  pub no-attack : b.game.bias ≡ 1
+  -- and where it has one, it has that one after a move apart from it
+  pub served : (line : ThreatLine)
+      → IsNext b (Line line)
       → is_over b.game q ≡ false
-      → may_attack b.game.kind q.turn ≡ true
-      → live_with b.game b.stand.position b.stand.position.turn 1 ≡ 0
-      → live_with b.game b.stand.position b.stand.position.turn 2 ≡ 0
-      → attack_wins b.game q ≡ false
-  no-attack one going may none_one none_two =
-      let turn : other q.turn ≡ p.turn =
-      ap (λ (x : Position). other x.turn) m.leads
-      ∙ ap other (turn-alternates g p v m.position one)
-      ∙ other_other p.turn in
-      let lacks : (k : ℕ) → live_with g p p.turn k ≡ 0 → live_with g q (other q.turn) k ≡ 0 =
-      (λ k none. ap (λ (s : Side). live_with g q s k) turn ∙ live-with-none k none) in
-      attack_wins-far g q may move-position.disjoint going (lacks 1 none_one) (lacks 2 none_two)
+      → IsApart b.game b.stand.position v (points_of_line line)
+      → (attack_wins b.game q ≡ true) × IsThreatLine b.game q q.turn (points_of_line line)
+  served line known going apart = subst (λ (x : Position).
+      (attack_wins g x ≡ true) × IsThreatLine g x x.turn (points_of_line line)) (sym m.leads)
+      (attack_wins-served g p v (points_of_line line) m.position m.range m.free known.0.may
+      (subst (λ (x : Position). is_over g x ≡ false) m.leads going) apart known.1.first.line
+      known.1.few)
 
   -- ---- pairs
 

@@ -1,14 +1,23 @@
 -- What a board tells of the positions after a move.
-use Rattle.std.specs.Prelude.{◌≡◌, ◌≢◌, ℕ, ◌+◌, ◌<◌, Bool, true, false, Some, None}
+use Rattle.std.specs.Prelude.{◌≡◌, ◌≢◌, ℕ, ◌+◌, ◌<◌, Bool, true, false, Option, Some, None}
 use Rattle.pg_leaf.specs.Prelude.{AvoiderEnforcer, Game, IsPosition, MakerBreaker, MakerMaker}
-use Rattle.pg_leaf.specs.Prelude.{Position, Score, Switching, View, after, breaker_of}
-use Rattle.pg_leaf.specs.Prelude.{decided, defender, is_free, is_over, point_count, points_of}
+use Rattle.pg_leaf.specs.Prelude.{Position, Score, Switching, Threat, View, after, answer_for}
+use Rattle.pg_leaf.specs.Prelude.{breaker_of, decided, defender, is_free, is_over, may_attack}
+use Rattle.pg_leaf.specs.Prelude.{point_count, points_of}
+use Rattle.pg_base.specs.Side.{other}
 use Rattle.pg_base.specs.declared.kind.Kind.{Kind}
+use Rattle.pg_board.specs.Passing.{passed}
+use Rattle.pg_game.specs.Decided.{greatest_depth}
 use Rattle.pg_game.specs.Potential.{full_weight, total_weight}
 use Rattle.pg_leaf.specs.Leaf.{IsLeaf}
 use Rattle.pg_leaf.specs.declared.ahead.Ahead.{Ahead}
+use Rattle.pg_leaf.specs.declared.ahead.Next.{Next}
+use Rattle.pg_leaf.specs.declared.ahead.Next.TheVariants.{Unknown, Quiet, Line}
 use Rattle.pg_leaf.specs.declared.ahead.Told.{Told}
-use Rattle.pg_leaf.specs.declared.ahead.Told.TheVariants.{Unsure, Open, Decided}
+use Rattle.pg_leaf.specs.declared.ahead.Told.TheVariants.{Unsure, Open, Decided, Attack}
+use Rattle.pg_threat.specs.Forced.{IsAnswer}
+use Rattle.pg_threat.specs.Search.{points_of_line}
+use Rattle.pg_threat.specs.declared.line.ThreatLine.{ThreatLine}
 
 -- the base of the weights by which the potential of a game of the kind is counted
 abbrev pub base_for : Kind → ℕ → ℕ
@@ -33,11 +42,6 @@ pub record IsWeighed (b : View) (a : Ahead) : Type 0 where
   pub total : a.total
       ≡ total_weight a.base b.game (points_of b.stand.position a.breaker) b.stand.position
 
--- and the side that defends is that of the question
-pub record IsAhead (t : Score) (b : View) (a : Ahead) : Type 0 where
-  pub defends : a.defender ≡ defender b.game.kind t
-  pub weighed : IsWeighed b a
-
 -- the position is that after a move to a free point of the board's, where the game isn't over
 pub record IsMoveOf (b : View) (q : Position) (v : ℕ) : Type 0 where
   pub lines : b.game.kind ≢ Switching
@@ -47,8 +51,42 @@ pub record IsMoveOf (b : View) (q : Position) (v : ℕ) : Type 0 where
   pub free : is_free b.stand.position v ≡ true
   pub leads : q ≡ after b.game b.stand.position v
 
+-- each side claims one point a turn, and the next side may attack
+pub record NextAttacks (b : View) : Type 0 where
+  pub single : b.game.bias ≡ 1
+  pub may : may_attack b.game.kind (other b.stand.position.turn) ≡ true
+
+-- the answer of the search for the next side's threat line where the turn passes to it
+abbrev pub IsNextAnswer : View → Option ThreatLine → Type 0
+IsNextAnswer b found = IsAnswer b.game (passed b.stand.position) (other b.stand.position.turn)
+    greatest_depth found
+
+-- whether it was sought
+abbrev pub is_known : Next → Bool
+is_known Unknown = false
+is_known Quiet = true
+is_known (Line line) = true
+
+-- with this known of it, and all else as it is
+abbrev pub with_next : Ahead → Next → Ahead
+with_next a next = record a { next = next }
+
+-- what is known of that line is so
+abbrev pub IsNext : View → Next → Type 0
+IsNext b Unknown = Unit {0}
+IsNext b Quiet = NextAttacks b → IsNextAnswer b None
+IsNext b (Line line) = NextAttacks b × IsNextAnswer b (Some line)
+
+-- the weights are those at the board's position for the side that defends in the question
+pub record IsAhead (t : Score) (b : View) (a : Ahead) : Type 0 where
+  pub defends : a.defender ≡ defender b.game.kind t
+  pub weighed : IsWeighed b a
+  pub next : IsNext b a.next
+
 -- what is told of a position is so
 abbrev pub IsTold : Game → Score → Position → Told → Type 0
 IsTold g t q Unsure = Unit {0}
 IsTold g t q Open = decided g t q ≡ None
 IsTold g t q (Decided b body) = (decided g t q ≡ Some b) × IsLeaf g t q b body
+IsTold g t q (Attack line) = (decided g t q ≡ Some (answer_for q.turn))
+    × IsLeaf g t q (answer_for q.turn) (Threat (points_of_line line))

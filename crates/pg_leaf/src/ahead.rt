@@ -1,20 +1,21 @@
 //! What the counts of a board tell of the positions after a move.
-ghost use Rattle.std.specs.Prelude.{◌≡◌, ◌<◌, ◌≤◌, ◌+◌, ℕ, length, true, false, IfSome};
-ghost use Rattle.pg_leaf.specs.Prelude.{Position, Score, Switching, after, attack_wins, defender};
-ghost use Rattle.pg_leaf.specs.Prelude.{defends, free_points, is_over, IsQuestion, pairs_exist};
+ghost use Rattle.std.specs.Prelude.{◌≡◌, ◌<◌, ◌+◌, ℕ, true, false, IfSome};
+ghost use Rattle.pg_leaf.specs.Prelude.{Position, Score, Switching, after, defender};
+ghost use Rattle.pg_leaf.specs.Prelude.{defends, is_over, IsQuestion, pairs_exist};
 ghost use Rattle.pg_leaf.specs.Prelude.{breaker_of, point_count, points_of, Side};
 ghost use Rattle.pg_base.specs.Side.{is_same_side};
 ghost use Rattle.pg_board.specs.Board.{degree};
 ghost use Rattle.pg_game.specs.Potential.{point_weight, total_weight};
 ghost use Rattle.pg_game.specs.Threat.{is_race};
-ghost use Rattle.pg_leaf.specs.Ahead.{base_for, is_avoiding, IsAhead, IsMoveOf, IsTold};
-ghost use Rattle.pg_leaf.specs.Ahead.{IsWeighed};
+ghost use Rattle.pg_leaf.specs.Ahead.{base_for, is_avoiding, is_known, IsAhead, IsMoveOf};
+ghost use Rattle.pg_leaf.specs.Ahead.{IsNext, IsTold, IsWeighed, with_next};
 
 use crate::criteria::answer_for;
 use pg_base::{Kind, Score, Side};
 use pg_board::Board;
 use pg_cert::Body;
 use pg_game::{Position, breaker_of, defender, full_weight, may_attack, x_takes_last};
+use pg_threat::{ThreatLine, forced_passed, is_apart};
 
 /// What the lines weigh at a position, for the potential that speaks to a question.
 #[derive(Debug, Drop)]
@@ -29,6 +30,20 @@ pub struct Ahead {
     pub limit: u128,
     /// The sum of the weights of all lines.
     pub total: u128,
+    /// What is known of the next side's threat lines after a move.
+    pub next: Next,
+}
+
+/// What is known of the threat lines of the side that is to move after a move, with at most three
+/// replies.
+#[derive(Clone, Copy, Debug)]
+pub enum Next {
+    /// Nothing: none was sought yet.
+    Unknown,
+    /// It may not attack, or has none where the turn passes to it; so it has none after any move.
+    Quiet,
+    /// It has this one where the turn passes to it, the first of fewest replies.
+    Line(ThreatLine),
 }
 
 /// What is told of the position after a move.
@@ -40,6 +55,8 @@ pub enum Told {
     Open,
     /// The first criterion that applies decides it: the answer, and the body that shows it.
     Decided(bool, Body),
+    /// The threat line of the side that is then to move does.
+    Attack(ThreatLine),
 }
 
 /// The base of the weights in a game of the kind in which Y claims `bias` points a turn.
@@ -72,24 +89,24 @@ fn is_avoiding(kind: Kind) -> bool
     }
 }
 
-/// Whether the board's counts show that the side to move after a move has no threat line: it may
-/// not attack, or it lacks more than two points of each line already before the move.
-fn is_safe(b: &Board<'_>, q: &Position) -> bool
-    ensures { (v : ℕ) → IsMoveOf b.now q.now v
-        → is_over b.now.game q.now ≡ false → result ≡ true
-        → attack_wins b.now.game q.now ≡ false }
+/// What there is to know of the next side's threat lines: whether it may attack, and which it has
+/// where the turn passes to it. The board is afterwards as before.
+fn next_of(b: &mut Board<'_>) -> Next
+    requires { is_over b.old.game b.old.stand.position ≡ false }
+    ensures next { IsNext b.old result }
+    ensures known { is_known result ≡ true }
+    ensures kept { b.new ≡ b.old }
 {
     if b.game().bias != 1 {
-        return true;
+        return Next::Quiet;
     }
-    if !may_attack(b.kind(), q.turn) {
-        return true;
+    if !may_attack(b.kind(), b.turn().other()) {
+        return Next::Quiet;
     }
-    let mover = b.turn();
-    if b.live_with(mover, 1) != 0 {
-        return false;
+    match forced_passed(b, 3) {
+        Some(line) => Next::Line(line),
+        None => Next::Quiet,
     }
-    b.live_with(mover, 2) == 0
 }
 
 /// The sum of the weights of all lines at the board's position, where the points of the side make a
@@ -120,7 +137,22 @@ impl Ahead {
             base,
             limit: full_weight(g, base),
             total: total_of(b, breaker),
+            next: Next::Unknown,
         }
+    }
+
+    /// Seeks the next side's threat line where the turn passes to it: if there is none, there is
+    /// none after any move, and else it is one after each move apart from it (`is_apart` of
+    /// `pg_threat`).
+    /// Only `next` changes. The board is afterwards as before; it takes no memory.
+    pub fn seek(&mut self, b: &mut Board<'_>)
+        requires { is_over b.old.game b.old.stand.position ≡ false }
+        ensures ahead { (t : Score) → IsAhead t b.old self.old → IsAhead t b.old self.new }
+        ensures known { is_known self.new.next ≡ true }
+        ensures rest { self.new ≡ with_next self.old self.new.next }
+        ensures kept { b.new ≡ b.old }
+    {
+        self.next = next_of(b);
     }
 
     /// The sum of the weights of the lines through the point.
@@ -177,7 +209,8 @@ impl Ahead {
     }
 
     /// Whether the potential holds after a move that leads to this total, and None where that takes
-    /// the weights of points there.
+    /// the weights of points there. No point weighs more than all lines, so it holds if the total
+    /// is low enough for that.
     fn holds(&self, b: &Board<'_>, q: &Position, total: u128) -> Option<bool>
         requires weighed { IsWeighed b.now self.now }
         requires moves { (v : ℕ) × IsMoveOf b.now q.now v }
@@ -201,6 +234,10 @@ impl Ahead {
             if q.left == bias {
                 return Some(true);
             }
+        }
+        let most = self.base * total;
+        if most < self.limit {
+            return Some(true);
         }
         None
     }
@@ -252,13 +289,19 @@ impl Ahead {
         if holds {
             return Told::Decided(answer_for(self.defender), Body::Potential);
         }
-        if !is_safe(b, q) {
-            return Told::Unsure;
+        match self.next {
+            Next::Unknown => {}
+            Next::Quiet => {
+                if self.is_short(b, v) {
+                    return Told::Open;
+                }
+            }
+            Next::Line(line) => {
+                if is_apart(b, &line, v) {
+                    return Told::Attack(line);
+                }
+            }
         }
-        if self.is_short(b, v) {
-            Told::Open
-        } else {
-            Told::Unsure
-        }
+        Told::Unsure
     }
 }

@@ -1,8 +1,8 @@
 //! The criteria that decide a position without search.
-ghost use Rattle.std.specs.Prelude.{◌≡◌, ◌<◌, ◌≤◌, Some, IfOk, IfSome, true, false, option_map};
+ghost use Rattle.std.specs.Prelude.{◌≡◌, ◌<◌, Some, IfOk, IfSome, true, false, option_map};
 ghost use Rattle.std.specs.Prelude.{is_some, None};
 ghost use Rattle.pg_leaf.specs.Prelude.{lines_of, is_over, decided, answer_for, attack_wins};
-ghost use Rattle.pg_leaf.specs.Prelude.{pairs_exist};
+ghost use Rattle.pg_leaf.specs.Prelude.{Threat, pairs_exist};
 ghost use Rattle.pg_leaf.specs.At.{IsAskedAt, IsAt};
 ghost use Rattle.pg_match.specs.Cache.{Fits};
 ghost use Rattle.pg_threat.specs.Search.{points_of_line};
@@ -28,11 +28,29 @@ pub(crate) fn answer_for(side: Side) -> bool
 
 /// The points of the line.
 fn points_of(alloc: Global, line: &ThreatLine) -> Result<Vec<u16>, Memory>
-    requires { line.now.len ≤ 7 }
     ensures { IfOk result (λ points. points.items ≡ points_of_line line.now) }
 {
-    let points = line.points[..usize::from(line.len)].to_vec(alloc)?;
+    let points = line.as_slice().to_vec(alloc)?;
     Ok(points)
+}
+
+/// The leaf that a threat line of the side to move gives the position: the answer, yes for X, and
+/// the body with the line's points.
+///
+/// # Errors
+///
+/// `Memory` where no memory is found.
+pub fn attack_leaf(
+    alloc: Global,
+    p: &Position,
+    line: &ThreatLine,
+) -> Result<Option<(bool, Body)>, Memory>
+    ensures { IfOk result
+        (λ r. r ≡ Some (answer_for p.now.turn, Threat (points_of_line line.now))) }
+{
+    let points = points_of(alloc, line)?;
+    let body = Body::Threat(Points::from_vec(points));
+    Ok(Some((answer_for(p.turn), body)))
 }
 
 /// The points of the shortest threat line of the side to move, where one forces at most three

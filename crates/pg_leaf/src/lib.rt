@@ -12,8 +12,8 @@ mod order;
 mod pruning;
 mod small_set;
 
-pub use ahead::{Ahead, Told};
-pub use criteria::leaf;
+pub use ahead::{Ahead, Next, Told};
+pub use criteria::{attack_leaf, leaf};
 pub use kept::KeptNode;
 pub use key::Key;
 pub use order::order_of;

@@ -1,16 +1,17 @@
 -- What the weights of an expansion tell of the positions after it.
-use Rattle.std.specs.Prelude.{Some, None}
+use Rattle.std.specs.Prelude.{Option, Some, None}
 use Rattle.std.proofs.Common.{◌≡◌, ◌≢◌, ◌<◌, ◌∙◌, ℕ, Bool, true, false, sym, subst}
-use Rattle.pg_pns.proofs.Common.{Body, Game, Position, Score, View, after, is_free}
-use Rattle.pg_pns.proofs.Common.{is_over}
-use Rattle.pg_pns.proofs.Common.{IsPosition, point_count}
+use Rattle.pg_pns.proofs.Common.{Body, Game, IsPosition, Position, Score, Threat, View, after}
+use Rattle.pg_pns.proofs.Common.{answer_for, is_free, is_over, point_count}
 use Rattle.pg_pns.specs.Prelude.{Cache, IsQuestion, Switching}
 use Rattle.pg_pns.specs.declared.table.Expansion.{Expansion}
 use Rattle.pg_pns.specs.Met.{IsLeafOf}
 use Rattle.pg_pns.specs.Reading.{IsExpansion, IsMoveAt}
 use Rattle.pg_leaf.specs.Ahead.{IsAhead, IsMoveOf, IsTold}
 use Rattle.pg_leaf.specs.declared.ahead.Told.{Told}
-use Rattle.pg_leaf.specs.declared.ahead.Told.TheVariants.{Open, Decided}
+use Rattle.pg_leaf.specs.declared.ahead.Told.TheVariants.{Attack, Open, Decided}
+use Rattle.pg_threat.specs.Search.{points_of_line}
+use Rattle.pg_threat.specs.declared.line.ThreatLine.{ThreatLine}
 use Rattle.pg_threat.proofs.Boards.{at_same}
 
 module _ (g : Game) (t : Score) (e : Expansion) (b : View) (cache : Cache)
@@ -59,3 +60,13 @@ module _ (g : Game) (t : Score) (e : Expansion) (b : View) (cache : Cache)
   decided-leaf q told answer body is h =
       let some = subst (λ (k : Told). IsTold g t q k) is h in
       record { answer = sym some.0; body = some.1 }
+
+  pub attack-leaf : (q : Position) (told : Told) (line : ThreatLine) (found : Option (Bool × Body))
+      → told ≡ Attack line
+      → found ≡ Some (answer_for q.turn, Threat (points_of_line line))
+      → IsTold g t q told
+      → IsLeafOf g t q found
+  attack-leaf q told line found is same h =
+      let some = subst (λ (k : Told). IsTold g t q k) is h in
+      subst (λ (f : Option (Bool × Body)). IsLeafOf g t q f) (sym same)
+      (record { answer = sym some.0; body = some.1 })

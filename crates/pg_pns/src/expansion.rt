@@ -100,6 +100,7 @@ fn expand(
         ahead: Ahead::look(board, asked.question),
         nexts: Moves::new(alloc),
     };
+    expansion.ahead.seek(board);
     for v in 0..asked.game.points() {
         if !expansion.position.is_free(v) {
             continue;

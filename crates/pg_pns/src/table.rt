@@ -15,7 +15,7 @@ use pg_base::Memory;
 use pg_board::Board;
 use pg_cert::Body;
 use pg_game::Position;
-use pg_leaf::{Ahead, KeptNode, Key, Told, leaf};
+use pg_leaf::{Ahead, KeptNode, Key, Told, attack_leaf, leaf};
 use pg_match::PairCache;
 use std::alloc::Global;
 
@@ -126,6 +126,7 @@ fn leaf_after(
     match expansion.ahead.tells(board, q, v) {
         Told::Open => return Ok(None),
         Told::Decided(answer, body) => return Ok(Some((answer, body))),
+        Told::Attack(line) => return attack_leaf(alloc, q, &line),
         Told::Unsure => {}
     }
     board.play(v);

@@ -8,7 +8,7 @@ pub use Rattle.pg_threat.specs.Prelude.{has_threat, in_insert, in_remove, insert
 pub use Rattle.pg_threat.specs.Prelude.{is_free, is_live_with, is_near, is_on, is_over, is_some}
 pub use Rattle.pg_threat.specs.Prelude.{is_touched, line_at, lines_of, list_all, list_any}
 pub use Rattle.pg_threat.specs.Prelude.{may_attack, nat_cmp, other, point_count, points_of}
-pub use Rattle.pg_threat.specs.Prelude.{range_with_len, remove, same_points, slice_get}
+pub use Rattle.pg_threat.specs.Prelude.{passed, range_with_len, remove, same_points, slice_get}
 unfoldable pub use Rattle.pg_threat.specs.Prelude.{has_threat_line, lines_holding, live_lines}
 unfoldable pub use Rattle.pg_threat.specs.Prelude.{live_with}
 pub use Rattle.pg_board.proofs.Answering.{clear-any}

@@ -1,16 +1,19 @@
 -- What the search says of the criterion by which a position is decided.
 use Rattle.std.specs.Prelude.{Option, Some, None}
-use Rattle.std.proofs.Common.{◌≡◌, ◌≢◌, true, false, refl, inl, inr, arith, ne_eqb}
+use Rattle.std.proofs.Common.{◌≡◌, ◌≢◌, ℕ, ◌<◌, true, false, inl, inr, arith, ne_eqb, sym}
+use Rattle.std.proofs.Common.{◌≤◌, List, subst}
 use Rattle.pg_threat.proofs.Common.{is_some, cases_Bool, and_from, and_left, and_right, Game}
-use Rattle.pg_threat.proofs.Common.{Position, ShareNone, live_with, may_attack, has_threat_line}
-use Rattle.pg_threat.proofs.Common.{is_over, other}
+use Rattle.pg_threat.proofs.Common.{Position, may_attack, has_threat_line}
+use Rattle.pg_threat.proofs.Common.{after, is_free, is_over, other, passed, point_count, Side}
+use Rattle.pg_threat.proofs.Common.{AreDeeper, IsPosition, IsThreatLine, depth_of, turn-alternates}
 use Rattle.pg_game.specs.Decided.{attack_wins, greatest_depth}
 use Rattle.pg_game.proofs.ThreatSearch.{line-within, within-line}
 use Rattle.pg_threat.specs.declared.line.ThreatLine.{ThreatLine}
 use Rattle.pg_threat.specs.Search.{points_of_line}
 use Rattle.pg_threat.specs.Forced.{IsAnswer}
-use Rattle.pg_threat.proofs.LineCounts.{none-lacking}
-use Rattle.pg_threat.proofs.Searching.{forced-far}
+use Rattle.pg_threat.proofs.Passing.{deeper-after}
+use Rattle.pg_threat.proofs.Serving.{line-after}
+use Rattle.pg_threat.specs.Serving.{IsApart}
 
 -- where the side to move may attack, it has a short threat line exactly where one was found
 pub attack_wins-found : (g : Game) (p : Position) (found : Option ThreatLine)
@@ -39,15 +42,42 @@ pub attack_wins-biased : (g : Game) (p : Position) → g.bias ≢ 1 → attack_w
 unfolding attack_wins has_threat_line
 attack_wins-biased g p several = and_right _ _ (and_left _ _ (ne_eqb g.bias 1 several))
 
--- where the board counts no line of which it lacks one point or two, it has none
-pub attack_wins-far : (g : Game) (p : Position)
-    → may_attack g.kind p.turn ≡ true
-    → ShareNone p.x p.y
+-- where the other side has no such line once the turn passes, it has none after any move
+pub attack_wins-passed : (g : Game) (p : Position) (v : ℕ)
+    → g.bias ≡ 1
+    → IsPosition g p
+    → v < point_count g
+    → is_free p v ≡ true
+    → may_attack g.kind (other p.turn) ≡ true
     → is_over g p ≡ false
-    → live_with g p (other p.turn) 1 ≡ 0
-    → live_with g p (other p.turn) 2 ≡ 0
-    → attack_wins g p ≡ false
-attack_wins-far g p may disjoint going one two =
-    attack_wins-found g p None may
-    (forced-far g p p.turn greatest_depth may disjoint going refl (none-lacking g p p.turn 1 one)
-    (none-lacking g p p.turn 2 two))
+    → is_over g (after g p v) ≡ false
+    → AreDeeper g (passed p) (other p.turn) greatest_depth
+    → attack_wins g (after g p v) ≡ false
+attack_wins-passed g p v one position range free may going goes_on deeper =
+    let next = sym (turn-alternates g p v position one) in
+    attack_wins-found g (after g p v) None
+    (subst (λ (s : Side). may_attack g.kind s ≡ true) next may)
+    (subst (λ (s : Side). AreDeeper g (after g p v) s greatest_depth) next
+    (deeper-after g p one position v range free greatest_depth may going goes_on deeper))
+
+-- where it has one then, it has one after each move apart from it
+pub attack_wins-served : (g : Game) (p : Position) (v : ℕ) (points : List ℕ)
+    → IsPosition g p
+    → v < point_count g
+    → is_free p v ≡ true
+    → may_attack g.kind (other p.turn) ≡ true
+    → is_over g (after g p v) ≡ false
+    → IsApart g p v points
+    → IsThreatLine g (passed p) (other p.turn) points
+    → depth_of points ≤ greatest_depth
+    → (attack_wins g (after g p v) ≡ true)
+    × IsThreatLine g (after g p v) (after g p v).turn points
+unfolding attack_wins
+attack_wins-served g p v points position range free may goes_on off line few =
+    let q = after g p v in
+    let next = sym (turn-alternates g p v position line.single) in
+    let here = subst (λ (s : Side). IsThreatLine g q s points) next
+    (line-after g p v points position range free may goes_on off line) in
+    let wins = and_from _ _ (subst (λ (s : Side). may_attack g.kind s ≡ true) next may)
+    (within-line g greatest_depth q points few here) in
+    (wins, here)

@@ -30,7 +30,7 @@ use Rattle.pg_threat.proofs.Searching.{reply-attacking, reply-fails, reply-free}
 
 module _ (t s : ℕ → Bool) where
   -- what passes the one test passes the other
-  all_weaker : (xs : List ℕ)
+  pub all_weaker : (xs : List ℕ)
       → ((x : ℕ) → t x ≡ true → s x ≡ true)
       → list_all t xs ≡ true
       → list_all s xs ≡ true
@@ -74,14 +74,14 @@ through-each g v n P end each line listed on =
 
 -- ---- two positions, of which the first has an attack and its reply besides
 
-free-both : (p : Position) (side : Side) (x : ℕ)
+pub free-both : (p : Position) (side : Side) (x : ℕ)
     → contains (points_of p side) x ≡ false
     → contains (points_of p (other side)) x ≡ false
     → is_free p x ≡ true
 free-both p X x mine theirs = and_from _ _ (not_from_false _ mine) (not_from_false _ theirs)
 free-both p Y x mine theirs = and_from _ _ (not_from_false _ theirs) (not_from_false _ mine)
 
-insert-swap : (s : FinSet nat_cmp) (a b : ℕ) → insert (insert s a) b ≡ insert (insert s b) a
+pub insert-swap : (s : FinSet nat_cmp) (a b : ℕ) → insert (insert s a) b ≡ insert (insert s b) a
 insert-swap s a b =
     same_points (insert (insert s a) b) (insert (insert s b) a) (λ x. in_insert (insert s a) b x
     ∙ ap (λ c. x == b || c) (in_insert s a x)
@@ -294,7 +294,7 @@ module _ (g : Game) (side : Side) (v u : ℕ) where
 -- ---- counts after moves
 
 -- at most one point more
-count-one : (g : Game) (s : FinSet nat_cmp) (a : ℕ) (line : List ℕ)
+pub count-one : (g : Game) (s : FinSet nat_cmp) (a : ℕ) (line : List ℕ)
     → Contains (lines_of g) line
     → contains s a ≡ false
     → count_by (contains (insert s a)) line ≤ count_by (contains s) line + 1

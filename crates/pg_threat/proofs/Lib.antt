@@ -5,6 +5,8 @@ pub mod LineCounts
 mod Scans
 mod Attacks
 mod Searching
+pub mod Passing
+pub mod Serving
 pub mod Deciding
 mod Partners
 mod Gains

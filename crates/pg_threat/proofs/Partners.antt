@@ -10,7 +10,7 @@ use Rattle.pg_threat.proofs.Common.{Position, points_of, lines_of, after, is_on,
 use Rattle.pg_threat.proofs.Common.{false-at, member-from_any, list_any-one, free-of, free-stays}
 use Rattle.pg_threat.proofs.Common.{free-was, points_of-mover, ShareNone-after, Near, filled_but}
 use Rattle.pg_threat.proofs.Common.{filled-without, line_at, lines_holding}
-use Rattle.pg_board.proofs.Ranges.{filtered-below}
+use Rattle.pg_board.proofs.Ranges.{filtered-below, filtered-passes}
 use Rattle.pg_threat.specs.Lacking.{is_gained, is_open_on, lacks, lacks_at, is_lacking, is_partner}
 use Rattle.pg_threat.proofs.LineCounts.{count-more, counted-all, lacks-from, one-lacked, one-near}
 use Rattle.pg_threat.proofs.Attacks.{near-lacks}
@@ -46,6 +46,14 @@ pub through-low : (lines : List (List ℕ)) (v i : ℕ)
     → get_or (lines_holding lines v) i 0 < length lines
 unfolding lines_holding
 through-low lines v i low = filtered-below (λ j. is_on v (get_or lines j [])) (length lines) _
+    (Contains-get_or (lines_holding lines v) i 0 low)
+
+-- each of them holds it
+pub through-on : (lines : List (List ℕ)) (v i : ℕ)
+    → i < length (lines_holding lines v)
+    → is_on v (get_or lines (get_or (lines_holding lines v) i 0) []) ≡ true
+unfolding lines_holding
+through-on lines v i low = filtered-passes (λ j. is_on v (get_or lines j [])) (length lines) _
     (Contains-get_or (lines_holding lines v) i 0 low)
 
 -- ---- the walk along them

@@ -7,6 +7,7 @@ pub use Rattle.pg_base.specs.declared.side.Side.{Side}
 pub use Rattle.pg_base.specs.declared.side.Side.TheVariants.{X, Y}
 pub use Rattle.pg_board.specs.Board.{Stand, View, count_of, is_live_with, line_at}
 unfoldable pub use Rattle.pg_board.specs.Board.{live_lines, live_with}
+pub use Rattle.pg_board.specs.Passing.{passed}
 unfoldable pub use Rattle.pg_board.specs.Shape.{lines_holding}
 pub use Rattle.pg_game.specs.Game.{IsPosition, after, has_filled, is_filled, is_over, is_touched}
 pub use Rattle.pg_game.specs.Game.{lines_of, point_count}

@@ -137,7 +137,7 @@ pub(crate) fn partners(b: &Board<'_>, side: Side, v: u16) -> PointSet
 }
 
 /// Whether the point is one of the line.
-fn holds(b: &Board<'_>, line: u32, u: u16) -> bool
+pub(crate) fn holds(b: &Board<'_>, line: u32, u: u16) -> bool
     requires { line < length (lines_of b.now.game) }
     ensures { result ≡ is_on u (line_at b.now.game line) }
 {

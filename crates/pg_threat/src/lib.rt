@@ -8,6 +8,8 @@
 mod lacking;
 mod line;
 mod search;
+mod served;
 
 pub use line::ThreatLine;
-pub use search::forced;
+pub use search::{forced, forced_passed};
+pub use served::is_apart;

@@ -1,7 +1,8 @@
 //! The search for a threat line.
 ghost use Rattle.std.specs.Prelude.{◌≡◌, ◌≤◌, ◌<◌, ◌↔◌, ℕ, true, false, length, ◌==◌, ◌&&◌};
 ghost use Rattle.std.specs.Prelude.{if◌then◌else◌};
-ghost use Rattle.pg_threat.specs.Prelude.{contains, after, is_over, lines_of, IsPosition};
+ghost use Rattle.pg_threat.specs.Prelude.{contains, after, is_over, lines_of, IsPosition, other};
+ghost use Rattle.pg_threat.specs.Prelude.{passed};
 ghost use Rattle.pg_threat.specs.Prelude.{may_attack, IsAttack, LeadsToLine, IsAttacking};
 ghost use Rattle.pg_threat.specs.Prelude.{IsLeastFrom};
 ghost use Rattle.pg_threat.specs.Forced.{IsAnswer};
@@ -217,4 +218,25 @@ pub fn forced(b: &mut Board<'_>, side: Side, depth: u8) -> Option<ThreatLine>
         }
     }
     None
+}
+
+/// The same for the other side, where the turn passes to it. The board is afterwards as before; it
+/// takes no memory.
+///
+/// A move takes a point from the other side's lines, and gives it none. So where None comes, that
+/// side has no threat line of at most that depth after any move either.
+pub fn forced_passed(b: &mut Board<'_>, depth: u8) -> Option<ThreatLine>
+    requires few { depth ≤ 3 }
+    requires going { is_over b.old.game b.old.stand.position ≡ false }
+    requires single { b.old.game.bias ≡ 1 }
+    requires may { may_attack b.old.game.kind (other b.old.stand.position.turn) ≡ true }
+    ensures answer { IsAnswer b.old.game (passed b.old.stand.position)
+        (other b.old.stand.position.turn) depth result }
+    ensures kept { b.new ≡ b.old }
+{
+    let side = b.turn().other();
+    b.pass();
+    let found = forced(b, side, depth);
+    b.pass();
+    found
 }

@@ -4,7 +4,7 @@ use Rattle.std.proofs.Common.{take, drop, refl, sym, ap, ◌∙◌, arith}
 use Rattle.std.proofs.lemmas.List.{set-set, set-get_or, take-append-drop, drop-append-le}
 use Rattle.std.proofs.lemmas.List.{take-append-le, take-take, length-take-le, drop_at, take_at}
 use Rattle.std.proofs.lemmas.List.{drop_all, take_all, length_push}
-use Rattle.pg_undo.specs.Trail.{Cells, with_set, before, back_to}
+use Rattle.pg_undo.specs.Trail.{Cells, with_set, with_cell, before, back_to}
 
 pub same_cells : (a b : Cells)
     → a.cells ≡ b.cells
@@ -45,6 +45,24 @@ back_to-with_set level t i v low room =
     (before-one e (set t.cells i v) ∙ (set-set t.cells i v e.1 ∙ set-get_or t.cells i 0))) in
     same_cells _ _ cells (take-append-le level t.entries (e ∷ []) low)
     (let more = length_push t.entries e in omega arith)
+
+-- of two values that a cell is given, the second counts
+pub with_cell-twice : (t : Cells) (i v w : ℕ) → with_cell (with_cell t i v) i w ≡ with_cell t i w
+unfolding with_cell
+with_cell-twice t i v w = same_cells _ _ (set-set t.cells i v w) refl refl
+
+-- nor does it matter what a cell is given after its change was written down
+pub back_to-with_cell : (level : ℕ) (t : Cells) (i v w : ℕ)
+    → level ≤ length t.entries
+    → 1 ≤ t.spare
+    → back_to level (with_cell (with_set t i v) i w) ≡ back_to level (with_set t i v)
+unfolding with_cell with_set
+back_to-with_cell level t i v w low room =
+    let same : with_cell (with_set t i v) i w ≡ with_set t i w =
+    same_cells _ _ (set-set t.cells i v w) refl refl in
+    ap (back_to level) same
+    ∙ back_to-with_set level t i w low room
+    ∙ sym (back_to-with_set level t i v low room)
 
 pub back_to-level : (t : Cells) → back_to (length t.entries) t ≡ t
 unfolding back_to before

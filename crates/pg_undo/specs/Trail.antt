@@ -16,6 +16,10 @@ with_set t i v = record {
   spare = t.spare - 1;
 }
 
+-- a cell is changed, and what it was isn't written down
+unfoldable pub with_cell : Cells → ℕ → ℕ → Cells
+with_cell t i v = record { cells = set t.cells i v; entries = t.entries; spare = t.spare }
+
 -- the cells before the changes
 unfoldable pub before : List (ℕ × ℕ) → List ℕ → List ℕ
 before [] cells = cells

@@ -1,6 +1,6 @@
 //! Trails.
 ghost use Rattle.std.specs.Prelude.{◌≡◌, ◌<◌, ◌≤◌, ◌-◌, [], length, slice_index, IfOk};
-ghost use Rattle.pg_undo.specs.Trail.{with_set, back_to, settled};
+ghost use Rattle.pg_undo.specs.Trail.{with_cell, with_set, back_to, settled};
 
 use pg_base::Memory;
 use std::alloc::Global;
@@ -73,6 +73,14 @@ impl Trail {
         let Ok(()) = self.entries.push((i, self.cells[i])) else {
             unreachable!()
         };
+        self.cells[i] = v;
+    }
+
+    /// Changes the cell without writing down what it was. It takes no memory.
+    pub fn put(&mut self, i: usize, v: u32)
+        requires { i < length self.old.cells }
+        ensures { self.new ≡ with_cell self.old i v }
+    {
         self.cells[i] = v;
     }
 

@@ -4,6 +4,7 @@ use Rattle.pg_pns.proofs.Common.{slice_get_within, slice_get_read, with_items_is
 use Rattle.pg_pns.proofs.Common.{with_items, Position, Game, Score, IsPosition, point_count, View}
 use Rattle.pg_pns.proofs.Common.{IsAt, is_over, one_at, undecided-going, get_or_from_slice_get}
 use Rattle.pg_leaf.specs.Ahead.{IsAhead}
+use Rattle.pg_threat.proofs.Boards.{at_same}
 use Rattle.pg_leaf.specs.declared.ahead.Ahead.{Ahead}
 use Rattle.pg_pns.specs.declared.table.Table.{Table}
 use Rattle.pg_pns.specs.Search.{CanGrow, IsGrowing, IsSearch}
@@ -42,17 +43,25 @@ read-there g t list s k p r b can at is =
     subst (λ (q : Position). IsGrowing g t list k q 0 s []) (sym (is ∙ at.position))
     (growing-start g t list k p s can)
 
+pub seek-requires : goal.seek-requires
+seek-requires c =
+    let can = c.requires.grows in
+    let stands = (c.requires.reads can.1 can.2.at).stands in
+    at_same (λ g p. is_over g p ≡ false) c.args.asked.game.now c.args.board.now.game can.1
+    c.args.board.now.stand.position stands.game stands.position
+    (undecided-going c.args.asked.game.now c.args.asked.question can.1 can.2.undecided)
+
 pub loop-v-init : goal.loop-v-init
 loop-v-init c = (
   record {
-    same = refl;
+    same = c.seek.ensures.kept;
     fits = (c.requires.reads c.requires.grows.1 c.requires.grows.2.at).fits;
   },
   refl,
   stands-there c.args.asked.game.now c.args.asked.question c.requires.grows.0 c.args.table.now
       c.args.k c.requires.grows.1 c.position.result c.args.board.now c.requires.grows.2
       (c.requires.reads c.requires.grows.1 c.requires.grows.2.at).stands c.position.ensures.exact,
-  c.look.ensures,
+  c.seek.ensures.ahead c.args.asked.question c.look.ensures,
   λ list p can. subst
       (λ (ns : List (ℕ × ℕ)). IsGrowing c.args.asked.game.now c.args.asked.question list c.args.k
       c.position.result 0 c.args.table.now ns) (sym c.new.ensures)

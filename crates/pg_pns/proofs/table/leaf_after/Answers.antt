@@ -1,11 +1,12 @@
 use Rattle.std.specs.Prelude.{Result, Ok, Err, Option, option_map, IfOk, IfSome}
 use Rattle.std.proofs.Common.{◌≡◌, ◌<◌, ◌∙◌, Bool, true, sym, ap, subst}
+use Rattle.std.proofs.lemmas.Result.{IfOk-weaker}
 use Rattle.pg_pns.proofs.Common.{Game, Position, IsPosition, View, after, is_free, point_count}
 use Rattle.pg_game.proofs.Moves.{IsPosition-after}
 use Rattle.pg_threat.proofs.Boards.{one-earlier, taken-back}
 use Rattle.pg_pns.specs.Prelude.{Body, IsLeaf, Score, decided}
 use Rattle.pg_pns.specs.Met.{IsLeafOf}
-use Rattle.pg_pns.proofs.Foretold.{decided-leaf, expansion-move, open-leaf, told-at}
+use Rattle.pg_pns.proofs.Foretold.{attack-leaf, decided-leaf, expansion-move, open-leaf, told-at}
 use Rattle.pg_pns.proofs.table.leaf_after.Goals as goal
 
 pub tells-requires-clause-moves : goal.tells-requires-clause-moves
@@ -29,6 +30,16 @@ returns-in-Decided-clause-found c = decided-leaf c.args.asked.game.now c.args.as
     c.tells.result c.in-Decided.answer c.in-Decided.body c.in-Decided.is
     (told-at c.args.asked.game.now c.args.asked.question c.args.expansion.now c.args.board.now
     c.args.cache.now c.requires.reads c.args.q.now c.tells.result c.tells.ensures)
+
+pub returns-in-Attack-clause-found : goal.returns-in-Attack-clause-found
+returns-in-Attack-clause-found c =
+    let told = told-at c.args.asked.game.now c.args.asked.question c.args.expansion.now
+    c.args.board.now c.args.cache.now c.requires.reads c.args.q.now c.tells.result
+    c.tells.ensures in
+    IfOk-weaker _ _ _ (λ (found : Option (Bool × Body)) same. attack-leaf c.args.asked.game.now
+    c.args.asked.question c.args.expansion.now c.args.board.now c.args.cache.now c.requires.reads
+    c.args.q.now c.tells.result c.in-Attack.line found c.in-Attack.is same told)
+    c.attack_leaf.ensures
 
 pub play-requires-clause-range : goal.play-requires-clause-range
 play-requires-clause-range c = subst (λ (g : Game). c.args.v < point_count g)

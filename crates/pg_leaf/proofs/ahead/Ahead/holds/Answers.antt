@@ -5,7 +5,7 @@ use Rattle.pg_leaf.proofs.Common.{breaker_of, free_points, Game}
 use Rattle.pg_leaf.specs.Ahead.{is_avoiding}
 use Rattle.pg_game.specs.Avoider.{x_takes_last}
 use Rattle.pg_leaf.proofs.Foreseeing.{avoider-by, avoiding-is, avoiding-not, heavy-fails}
-use Rattle.pg_leaf.proofs.Foreseeing.{light-holds, limit-few, move-free}
+use Rattle.pg_leaf.proofs.Foreseeing.{light-holds, limit-few, move-free, scant-few, scant-holds}
 use Rattle.pg_leaf.proofs.ahead.Ahead.holds.Goals as goal
 
 pub returns-then-total-self : goal.returns-then-total-self
@@ -81,3 +81,21 @@ returns-then-q-bias c = λ t is.
     m.lines (w.breaker ∙ ap (breaker_of g.kind) is) w.base (sym c.is_same.ensures
     ∙ c.if-is_same.true) (c.if-q-bias.true ∙ ap (λ (k : Game). k.bias) c.game.ensures)
     c.if-total-self.false
+
+pub overflow_mul-most : goal.overflow_mul-most
+overflow_mul-most c = omega (
+  arith,
+  scant-few c.args.b.now c.args.self.now c.args.total c.requires.weighed c.if-total-self.false,
+)
+
+pub returns-then-most-self : goal.returns-then-most-self
+returns-then-most-self c = λ t is.
+    let g = c.args.b.now.game in
+    let a = c.args.self.now in
+    let w = c.requires.weighed in
+    let m = c.requires.moves.1 in
+    let other = avoiding-not g.kind (sym (ap is_avoiding c.kind.ensures.exact)
+    ∙ sym c.is_avoiding.ensures
+    ∙ c.if-is_avoiding.false) in
+    scant-holds g t c.args.q.now a.breaker a.base c.args.total a.limit c.requires.total w.limit
+    g.kind other m.lines (w.breaker ∙ ap (breaker_of g.kind) is) w.base c.if-most-self.true
