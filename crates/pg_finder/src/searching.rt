@@ -8,7 +8,7 @@ ghost use Rattle.pg_cert.specs.declared.cert.Version.TheVariants.{One};
 ghost use Rattle.pg_dfpn.specs.Settled.{IsSettled};
 ghost use Rattle.pg_game.specs.declared.game.Game.{Game};
 ghost use Rattle.pg_zone_proofs.specs.Settled.{IsSettled as IsSettledByPatterns};
-ghost use Rattle.pg_finder.specs.Claims.{IsAnswered};
+ghost use Rattle.pg_finder.specs.Claims.{IsAnswered, least_version};
 
 use pg_base::{Kind, Memory, Score};
 use pg_cert::{Body, Claim, Node, Version};
@@ -46,7 +46,10 @@ pub(crate) struct Searched {
 /// What a search may use after `before` positions were expanded.
 pub(crate) fn limits_after(budget: Budget, before: u32) -> Limits
     requires { before ≤ budget.positions }
-    ensures { result.positions + before ≡ budget.positions }
+    ensures positions { result.positions + before ≡ budget.positions }
+    ensures entries { result.entries ≡ budget.entries }
+    ensures first_steps { result.first_steps ≡ FIRST_STEPS }
+    ensures steps { result.steps ≡ STEPS }
 {
     Limits {
         positions: budget.positions - before,
@@ -84,7 +87,8 @@ fn are_plain(nodes: &[Node]) -> bool
 
 /// The least version of the format that has the bodies of the claim's nodes.
 fn version_of(claim: &Claim) -> Version
-    ensures { IsOfVersion result claim.now }
+    ensures exact { result ≡ least_version claim.now }
+    ensures bodies { IsOfVersion result claim.now }
 {
     if are_plain(claim.nodes.as_slice()) {
         Version::One

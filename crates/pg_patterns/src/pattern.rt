@@ -1,6 +1,6 @@
 //! Patterns: what a side needs to win.
 
-use crate::pairing::SmallPair;
+use crate::small_pair::SmallPair;
 use crate::small_set::SmallSet;
 use pg_base::Side;
 
@@ -58,14 +58,6 @@ impl Pattern {
             self.claimer
         } else {
             self.claimer.other()
-        }
-    }
-
-    /// Tests whether it is shown by itself, and doesn't rest on others.
-    pub fn is_leaf(&self) -> bool {
-        match &self.reason {
-            Reason::Over | Reason::Pairs(_) | Reason::Potential | Reason::Threat(_) => true,
-            Reason::Move { .. } | Reason::All(_) => false,
         }
     }
 }

@@ -8,7 +8,8 @@ use pg_base::{Goal, Memory, Side};
 use pg_cert::{Claim, Nodes};
 use pg_dfpn::{Limits, Settled, Settling};
 use pg_game::Game;
-use pg_zones::{Found, Limits as SearchLimits, search};
+use pg_patterns::Limits as SearchLimits;
+use pg_zones::{Found, search};
 use std::alloc::Global;
 
 /// Returns the answer that the pattern shows, with its claim; unknown if the claim has too many

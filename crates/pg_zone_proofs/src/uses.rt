@@ -2,8 +2,8 @@
 ghost use Rattle.std.specs.Prelude.{◌≡◌};
 
 use pg_base::Memory;
-use pg_patterns::{Arena, Image, Reason, SmallSet, Spot};
-use pg_zones::{Found, Known};
+use pg_patterns::{Arena, Image, Reason, Spot};
+use pg_zones::Found;
 use std::alloc::Global;
 use std::collections::HashMap;
 

@@ -1,17 +1,19 @@
 //! The search.
 ghost use Rattle.std.specs.Prelude.{◌≡◌, IfOk};
+ghost use Rattle.pg_patterns.specs.Known.{limits_of};
 
 use crate::averages::Averages;
 use crate::expanding::Expanded;
 use crate::finder::{Finder, Manner};
-use crate::known::{Entry, Glimpse, Known, Undecided};
-use crate::limits::Limits;
-use crate::numbers::{INFINITE, Numbers};
+use crate::numbers::INFINITE;
 use crate::survey::{Frame, Survey};
 use crate::trials::Trials;
 use pg_base::Memory;
 use pg_game::Game;
-use pg_patterns::{Arena, Spot, heaviest_first, total_weight, weigh};
+use pg_patterns::{
+    Arena, Entry, Glimpse, Known, Limits, Numbers, Spot, Undecided, heaviest_first, total_weight,
+    weigh,
+};
 use std::alloc::Global;
 
 /// The most looks at positions for each position that may be expanded.
@@ -76,7 +78,7 @@ impl Finder {
         limits: Numbers,
         frames: &mut Vec<Frame>,
     ) -> Result<(), Memory>
-        ensures { self.new.known.limits ≡ self.old.known.limits }
+        ensures { limits_of self.new.known ≡ limits_of self.old.known }
     {
         let going = match self.known.take(spot) {
             Some(Entry::Undecided(going)) => going,
@@ -104,7 +106,7 @@ impl Finder {
         frame: &Frame,
         survey: &Survey,
     ) -> Result<Option<u32>, Memory>
-        ensures { self.new.known.limits ≡ self.old.known.limits }
+        ensures { limits_of self.new.known ≡ limits_of self.old.known }
     {
         if let Some((point, next)) = survey.won {
             return self.add_move(alloc, frame.spot.turn, point, next);
@@ -117,7 +119,7 @@ impl Finder {
 
     /// Looks at the moves of a frame.
     fn look(&mut self, alloc: Global, frame: &mut Frame) -> Result<Looked, Memory>
-        ensures { self.new.known.limits ≡ self.old.known.limits }
+        ensures { limits_of self.new.known ≡ limits_of self.old.known }
     {
         let survey = self.survey(alloc, frame)?;
         if let Some(number) = self.decided(alloc, frame, &survey)? {
@@ -140,7 +142,7 @@ impl Finder {
 
     /// Looks at the last frame, and goes down or up.
     fn step(&mut self, alloc: Global, frames: &mut Vec<Frame>) -> Result<(), Memory>
-        ensures { self.new.known.limits ≡ self.old.known.limits }
+        ensures { limits_of self.new.known ≡ limits_of self.old.known }
     {
         let Some(mut frame) = frames.pop() else {
             return Ok(());
@@ -170,7 +172,7 @@ impl Finder {
 
     /// Searches from the game's own position until it is decided, or as much is used as may be.
     fn descend(&mut self, alloc: Global) -> Result<Option<u32>, Memory>
-        ensures { self.new.known.limits ≡ self.old.known.limits }
+        ensures { limits_of self.new.known ≡ limits_of self.old.known }
     {
         let start = self.arena.start;
         let whole = Numbers {
@@ -193,7 +195,7 @@ impl Finder {
 
     /// Begins a round that expands at most `budget` positions.
     fn begin_round(&mut self, alloc: Global, budget: u32, manner: Manner)
-        ensures { self.new.known.limits ≡ self.old.known.limits }
+        ensures { limits_of self.new.known ≡ limits_of self.old.known }
     {
         self.manner = manner;
         self.round_end = self.known.expanded().saturating_add(budget);
@@ -203,7 +205,7 @@ impl Finder {
     /// Searches in rounds, each from the game's own position, with moves judged late and early in
     /// turn. Patterns stay from one round to the next.
     fn search_in_rounds(&mut self, alloc: Global) -> Result<Option<u32>, Memory>
-        ensures { self.new.known.limits ≡ self.old.known.limits }
+        ensures { limits_of self.new.known ≡ limits_of self.old.known }
     {
         let mut budget = FIRST_ROUND;
         let mut manner = Manner::Late;
@@ -242,7 +244,7 @@ impl Finder {
 ///
 /// `Memory` if an allocation fails.
 pub fn search(alloc: Global, g: &Game, limits: Limits) -> Result<Found, Memory>
-    ensures { IfOk result (λ found. found.known.limits ≡ limits) }
+    ensures { IfOk result (λ found. limits_of found.known ≡ limits) }
 {
     let arena = Arena::of_game(alloc, g)?;
     let live = arena.live(alloc, &arena.start)?;

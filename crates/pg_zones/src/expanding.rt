@@ -1,12 +1,14 @@
 //! Expands positions: what is known before their moves are searched.
 ghost use Rattle.std.specs.Prelude.{◌≡◌};
+ghost use Rattle.pg_patterns.specs.Known.{limits_of};
 
 use crate::combining::{all_pattern, move_pattern};
 use crate::finder::{Finder, Manner, THREAT_STEPS, by_threat};
-use crate::known::{Known, Undecided};
-use crate::numbers::{Numbers, first_numbers, quarters};
+use crate::numbers::{first_numbers, quarters};
 use pg_base::{Memory, Side};
-use pg_patterns::{Arena, Image, Spot, heaviest_first, total_weight, weigh};
+use pg_patterns::{
+    Arena, Image, Known, Numbers, Spot, Undecided, heaviest_first, total_weight, weigh,
+};
 use std::alloc::Global;
 
 /// The most patterns that are looked up after a pass.
@@ -30,39 +32,36 @@ pub(crate) enum Expanded {
     Undecided(Undecided),
 }
 
-impl Undecided {
-    /// Learns that a pattern of the waiter, who is to move in it, answers all moves outside its
-    /// zone.
-    fn learn(&mut self, arena: &Arena, known: &Known, image: Image) -> Result<(), Memory> {
-        if let Some((_held, zone)) = known.parts(arena, image) {
-            if !self.must.is_subset(zone) {
-                self.answers.push(image)?;
-                self.must = self.must.common(zone);
-            }
+/// Learns that a pattern of the waiter, who is to move in it, answers all moves outside its zone.
+fn learn(arena: &Arena, known: &Known, image: Image, going: &mut Undecided) -> Result<(), Memory> {
+    if let Some((_held, zone)) = known.parts(arena, image) {
+        if !going.must.is_subset(zone) {
+            going.answers.push(image)?;
+            going.must = going.must.common(zone);
         }
-        Ok(())
     }
+    Ok(())
+}
 
-    /// Learns the pattern and, if few points are taken, its images under the maps that keep the
-    /// position.
-    pub(crate) fn learn_all(
-        &mut self,
-        alloc: Global,
-        arena: &Arena,
-        known: &Known,
-        spot: &Spot,
-        pattern: u32,
-    ) -> Result<(), Memory> {
-        self.learn(arena, known, Image { pattern, map: 0 })?;
-        if spot.taken().len() > FEW_TAKEN {
-            return Ok(());
-        }
-        let maps = arena.maps.keeping(alloc, spot)?;
-        for map in &maps {
-            self.learn(arena, known, Image { pattern, map: *map })?;
-        }
-        Ok(())
+/// Learns the pattern and, if few points are taken, its images under the maps that keep the
+/// position.
+pub(crate) fn learn_all(
+    alloc: Global,
+    arena: &Arena,
+    known: &Known,
+    spot: &Spot,
+    pattern: u32,
+    going: &mut Undecided,
+) -> Result<(), Memory> {
+    learn(arena, known, Image { pattern, map: 0 }, going)?;
+    if spot.taken().len() > FEW_TAKEN {
+        return Ok(());
     }
+    let maps = arena.maps.keeping(alloc, spot)?;
+    for map in &maps {
+        learn(arena, known, Image { pattern, map: *map }, going)?;
+    }
+    Ok(())
 }
 
 /// Returns the position after a pass.
@@ -80,7 +79,7 @@ impl Finder {
         let waiter = spot.turn.other();
         let found = self.known.find(alloc, waiter, true, spot, MOST_FOUND)?;
         for pattern in &found {
-            going.learn_all(alloc, &self.arena, &self.known, spot, *pattern)?;
+            learn_all(alloc, &self.arena, &self.known, spot, *pattern, going)?;
         }
         Ok(())
     }
@@ -92,7 +91,7 @@ impl Finder {
         spot: &Spot,
         going: &mut Undecided,
     ) -> Result<(), Memory>
-        ensures { self.new.known.limits ≡ self.old.known.limits }
+        ensures { limits_of self.new.known ≡ limits_of self.old.known }
     {
         let passed = passed(spot);
         let live = self.arena.live(alloc, spot)?;
@@ -107,7 +106,7 @@ impl Finder {
             return Ok(());
         };
         if let Some(number) = self.known.add(alloc, pattern)? {
-            going.learn_all(alloc, &self.arena, &self.known, spot, number)?;
+            learn_all(alloc, &self.arena, &self.known, spot, number, going)?;
         }
         Ok(())
     }
@@ -120,7 +119,7 @@ impl Finder {
         point: u8,
         next: u32,
     ) -> Result<Option<u32>, Memory>
-        ensures { self.new.known.limits ≡ self.old.known.limits }
+        ensures { limits_of self.new.known ≡ limits_of self.old.known }
     {
         let next = Image {
             pattern: next,
@@ -140,7 +139,7 @@ impl Finder {
         point: u8,
         going: &mut Undecided,
     ) -> Result<(), Memory>
-        ensures { self.new.known.limits ≡ self.old.known.limits }
+        ensures { limits_of self.new.known ≡ limits_of self.old.known }
     {
         let Some(next) = self.decide(alloc, &passed(spot).after(point))? else {
             return Ok(());
@@ -149,7 +148,7 @@ impl Finder {
             return Ok(());
         }
         if let Some(number) = self.add_move(alloc, Side::Y, point, next)? {
-            going.learn_all(alloc, &self.arena, &self.known, spot, number)?;
+            learn_all(alloc, &self.arena, &self.known, spot, number, going)?;
         }
         Ok(())
     }
@@ -161,7 +160,7 @@ impl Finder {
         spot: &Spot,
         going: &mut Undecided,
     ) -> Result<(), Memory>
-        ensures { self.new.known.limits ≡ self.old.known.limits }
+        ensures { limits_of self.new.known ≡ limits_of self.old.known }
     {
         let live = self.arena.live(alloc, spot)?;
         let weights = weigh(live.as_slice(), self.arena.longest);
@@ -184,7 +183,7 @@ impl Finder {
         spot: &Spot,
         going: &mut Undecided,
     ) -> Result<(), Memory>
-        ensures { self.new.known.limits ≡ self.old.known.limits }
+        ensures { limits_of self.new.known ≡ limits_of self.old.known }
     {
         self.learn_known(alloc, spot, going)?;
         if going.must.is_empty() {
@@ -205,7 +204,7 @@ impl Finder {
         point: u8,
         going: &mut Undecided,
     ) -> Result<Option<u32>, Memory>
-        ensures { self.new.known.limits ≡ self.old.known.limits }
+        ensures { limits_of self.new.known ≡ limits_of self.old.known }
     {
         let Some(next) = self.decide(alloc, &spot.after(point))? else {
             return Ok(None);
@@ -213,7 +212,7 @@ impl Finder {
         if self.known.claimer(next) == Some(spot.turn) {
             return self.add_move(alloc, spot.turn, point, next);
         }
-        going.learn_all(alloc, &self.arena, &self.known, spot, next)?;
+        learn_all(alloc, &self.arena, &self.known, spot, next, going)?;
         Ok(None)
     }
 
@@ -224,7 +223,7 @@ impl Finder {
         spot: &Spot,
         going: &mut Undecided,
     ) -> Result<Option<u32>, Memory>
-        ensures { self.new.known.limits ≡ self.old.known.limits }
+        ensures { limits_of self.new.known ≡ limits_of self.old.known }
     {
         let live = self.arena.live(alloc, spot)?;
         let weights = weigh(live.as_slice(), self.arena.longest);
@@ -250,7 +249,7 @@ impl Finder {
         spot: &Spot,
         answers: &[Image],
     ) -> Result<Option<u32>, Memory>
-        ensures { self.new.known.limits ≡ self.old.known.limits }
+        ensures { limits_of self.new.known ≡ limits_of self.old.known }
     {
         match all_pattern(alloc, &self.arena, &self.known, spot, answers)? {
             Some(pattern) => self.known.add(alloc, pattern),
@@ -268,7 +267,7 @@ impl Finder {
     /// Decides the position, or returns which moves must be searched; None if neither may be done
     /// within the limits.
     pub(crate) fn expand(&mut self, alloc: Global, spot: &Spot) -> Result<Option<Expanded>, Memory>
-        ensures { self.new.known.limits ≡ self.old.known.limits }
+        ensures { limits_of self.new.known ≡ limits_of self.old.known }
     {
         if let Some(number) = self.decide(alloc, spot)? {
             return Ok(Some(Expanded::Decided(number)));
@@ -300,7 +299,7 @@ impl Finder {
         spot: &Spot,
         mut going: Undecided,
     ) -> Result<Option<Expanded>, Memory>
-        ensures { self.new.known.limits ≡ self.old.known.limits }
+        ensures { limits_of self.new.known ≡ limits_of self.old.known }
     {
         if going.must.is_empty() {
             return match self.add_all(alloc, spot, going.answers.as_slice())? {

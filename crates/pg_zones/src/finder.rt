@@ -1,14 +1,15 @@
 //! Decides positions without a search.
 ghost use Rattle.std.specs.Prelude.{◌≡◌};
+ghost use Rattle.pg_patterns.specs.Known.{limits_of};
 
 use crate::averages::Averages;
-use crate::known::Known;
 use crate::trials::{Trials, kind_of};
 use pg_base::{Memory, Side};
-use pg_patterns::{
-    Arena, Pattern, SmallSet, Spot, least_lines, over_pattern, pairs_pattern, potential_pattern,
-    shared_pairs, threat, threat_pattern, weigh,
+use pg_pattern_leaves::{
+    least_lines, over_pattern, pairs_pattern, potential_pattern, shared_pairs, threat,
+    threat_pattern,
 };
+use pg_patterns::{Arena, Known, Pattern, SmallSet, Spot, weigh};
 use std::alloc::Global;
 
 /// The most positions that a search for a threat line looks at.
@@ -171,16 +172,26 @@ impl Finder {
         }
     }
 
+    /// Returns the number of a known pattern of the claimer that fits the position, if any does.
+    fn known_one(&self, alloc: Global, claimer: Side, spot: &Spot) -> Result<Option<u32>, Memory> {
+        let moves = spot.turn == claimer;
+        let found = self.known.find(alloc, claimer, moves, spot, 1)?;
+        match found.first() {
+            Some(number) => Ok(Some(*number)),
+            None => Ok(None),
+        }
+    }
+
     /// Returns the number of a pattern that decides the position: one that is known, or one that a
     /// criterion shows.
     pub(crate) fn decide(&mut self, alloc: Global, spot: &Spot) -> Result<Option<u32>, Memory>
-        ensures { self.new.known.limits ≡ self.old.known.limits }
+        ensures { limits_of self.new.known ≡ limits_of self.old.known }
     {
-        let known = self.known.find_one(alloc, Side::X, spot)?;
+        let known = self.known_one(alloc, Side::X, spot)?;
         if known.is_some() {
             return Ok(known);
         }
-        let known = self.known.find_one(alloc, Side::Y, spot)?;
+        let known = self.known_one(alloc, Side::Y, spot)?;
         if known.is_some() {
             return Ok(known);
         }

@@ -7,13 +7,8 @@ mod combining;
 mod descent;
 mod expanding;
 mod finder;
-mod known;
-mod limits;
 mod numbers;
 mod survey;
 mod trials;
-mod trie;
 
 pub use descent::{Found, search};
-pub use known::Known;
-pub use limits::Limits;

@@ -2,21 +2,13 @@
 ghost use Rattle.std.specs.Prelude.{◌≤◌};
 
 use pg_base::Side;
+use pg_patterns::Numbers;
 
 /// The number of a side that has lost.
 pub(crate) const INFINITE: u32 = 1 << 30;
 
 /// The greatest first number.
 const MOST_FIRST: u32 = 4_000;
-
-/// How hard it seems that a side wins: 0 where it does, and `INFINITE` where it doesn't.
-#[derive(Clone, Copy, Debug, PartialEq, Eq)]
-pub(crate) struct Numbers {
-    /// For the side to move.
-    pub(crate) mover: u32,
-    /// For the other side.
-    pub(crate) waiter: u32,
-}
 
 /// Returns the logarithm of a number to the base 2, rounded down; 0 for 0.
 fn logarithm(n: u128) -> u32

@@ -1,10 +1,10 @@
 //! Surveys the moves of a position.
 
+use crate::expanding::learn_all;
 use crate::finder::Finder;
-use crate::known::{Glimpse, Undecided};
-use crate::numbers::{INFINITE, Numbers, first_numbers, quarters, sixths};
+use crate::numbers::{INFINITE, first_numbers, quarters, sixths};
 use pg_base::{Memory, Side};
-use pg_patterns::{Spot, Weighed};
+use pg_patterns::{Glimpse, Numbers, Spot, Undecided, Weighed};
 use std::alloc::Global;
 
 /// A position on the way down, and what the positions below are to reach before the search goes up
@@ -151,9 +151,14 @@ impl Finder {
                             survey.won = Some((weighed.point, number));
                             return Ok(survey);
                         }
-                        frame
-                            .going
-                            .learn_all(alloc, &self.arena, &self.known, &spot, number)?;
+                        learn_all(
+                            alloc,
+                            &self.arena,
+                            &self.known,
+                            &spot,
+                            number,
+                            &mut frame.going,
+                        )?;
                     }
                     Glimpse::Undecided(numbers) => survey.put(weighed.point, numbers),
                     Glimpse::Unmet => {

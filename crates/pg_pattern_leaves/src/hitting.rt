@@ -1,7 +1,7 @@
 //! Points that meet lines.
 
-use crate::small_set::SmallSet;
 use pg_base::Memory;
+use pg_patterns::SmallSet;
 use std::alloc::Global;
 
 /// Returns how many of the lines have the point.

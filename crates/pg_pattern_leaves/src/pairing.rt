@@ -1,19 +1,10 @@
 //! Shared pairs: two free points for each line that Maker may still fill, where two lines may have
 //! the same two.
-ghost use Rattle.std.specs.Prelude.{◌<◌, ◌≤◌, IfNone, IfSome, length};
+ghost use Rattle.std.specs.Prelude.{◌<◌, IfSome, length};
 
-use crate::small_set::SmallSet;
 use pg_base::Memory;
+use pg_patterns::{SmallPair, SmallSet};
 use std::alloc::Global;
-
-/// Two points, of which Breaker answers one with the other.
-#[derive(Clone, Copy, Debug, PartialEq, Eq)]
-pub struct SmallPair {
-    /// One point.
-    pub a: u8,
-    /// The other point.
-    pub b: u8,
-}
 
 /// The cost of a line without a pair that a choice leaves as it is.
 const UNTOUCHED: u32 = 16;
@@ -46,13 +37,6 @@ enum Reached {
     Going(Level),
 }
 
-impl SmallPair {
-    /// The two points.
-    pub fn points(self) -> SmallSet {
-        SmallSet::empty().with(self.a).with(self.b)
-    }
-}
-
 /// Tests whether one of the lines is within the line.
 fn is_needless(kept: &[SmallSet], line: SmallSet) -> bool {
     for other in kept {
@@ -74,7 +58,11 @@ fn keep_least(lines: &[SmallSet], points: u32, kept: &mut Vec<SmallSet>) -> Resu
 }
 
 /// Returns the lines that contain no other line, the smallest first. Pairs that serve these serve
-/// all.
+/// all. `longest` is the number of points of the longest line.
+///
+/// # Errors
+///
+/// `Memory` if an allocation fails.
 pub fn least_lines(
     alloc: Global,
     lines: &[SmallSet],

@@ -1,7 +1,8 @@
 //! A table of patterns of one side.
+ghost use Rattle.std.specs.Prelude.{◌≤◌, IfOk, OnOk, vec_len};
 
+use crate::small_set::SmallSet;
 use pg_base::Memory;
-use pg_patterns::SmallSet;
 use std::alloc::Global;
 
 /// The zone of a pattern, and the pattern's number.
@@ -61,13 +62,15 @@ impl Fork {
 
     /// Adds to `found` the patterns in whose zones the other side has no point, until there are
     /// `most`.
-    fn collect(&self, theirs: SmallSet, most: usize, found: &mut Vec<u32>) -> Result<(), Memory> {
+    fn collect(&self, theirs: SmallSet, most: usize, found: &mut Vec<u32>) -> Result<(), Memory>
+        ensures { OnOk result (vec_len found.old ≤ most → vec_len found.new ≤ most) }
+    {
         for item in &self.items {
+            if found.len() >= most {
+                return Ok(());
+            }
             if item.zone.shares_none(theirs) {
                 found.push(item.pattern)?;
-                if found.len() >= most {
-                    return Ok(());
-                }
             }
         }
         Ok(())
@@ -137,7 +140,9 @@ impl Trie {
         mine: SmallSet,
         theirs: SmallSet,
         most: usize,
-    ) -> Result<Vec<u32>, Memory> {
+    ) -> Result<Vec<u32>, Memory>
+        ensures { IfOk result (λ found. vec_len found ≤ most) }
+    {
         let mut found = Vec::new(alloc);
         let mut places = Vec::new(alloc);
         places.push(0usize)?;

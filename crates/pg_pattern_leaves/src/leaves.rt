@@ -1,13 +1,12 @@
 //! Patterns that are shown by themselves.
+ghost use Rattle.std.specs.Prelude.{◌≡◌, IfOk, true};
+ghost use Rattle.pg_base.specs.Side.{is_same_side};
+ghost use Rattle.pg_base.specs.declared.side.Side.TheVariants.{X, Y};
+ghost use Rattle.pg_patterns.specs.declared.pattern.Reason.TheVariants.{Over, Potential, Threat};
 
-use crate::arena::Arena;
 use crate::hitting::hitting;
-use crate::pairing::SmallPair;
-use crate::pattern::{Pattern, Reason};
-use crate::small_set::SmallSet;
-use crate::spot::Spot;
-use crate::weights::{heaviest_first, weigh};
 use pg_base::{Memory, Side};
+use pg_patterns::{Arena, Pattern, Reason, SmallPair, SmallSet, Spot, heaviest_first, weigh};
 use std::alloc::Global;
 
 /// Returns the lines with a point of the set.
@@ -31,8 +30,18 @@ fn filled(lines: &[SmallSet], x: SmallSet) -> Option<SmallSet> {
     None
 }
 
-/// Returns the pattern of a position at which the game is over.
-pub fn over_pattern(alloc: Global, arena: &Arena, spot: &Spot) -> Result<Pattern, Memory> {
+/// Returns the pattern of a position at which the game is over: Maker needs a line within its
+/// points, or Breaker a few of its own that meet every line.
+///
+/// # Errors
+///
+/// `Memory` if an allocation fails.
+pub fn over_pattern(alloc: Global, arena: &Arena, spot: &Spot) -> Result<Pattern, Memory>
+    ensures reason { IfOk result (λ pattern. pattern.reason ≡ Over) }
+    ensures zone { IfOk result (λ pattern. pattern.zone ≡ pattern.held) }
+    ensures moves { IfOk result
+        (λ pattern. pattern.moves ≡ is_same_side spot.now.turn pattern.claimer) }
+{
     let (claimer, held) = match filled(arena.lines.as_slice(), spot.x) {
         Some(line) => (Side::X, line),
         None => (Side::Y, hitting(alloc, arena.lines.as_slice(), spot.y)?),
@@ -41,7 +50,7 @@ pub fn over_pattern(alloc: Global, arena: &Arena, spot: &Spot) -> Result<Pattern
         held,
         zone: held,
         claimer,
-        moves: spot.turn == claimer,
+        moves: spot.turn.is_same(claimer),
         reason: Reason::Over,
     })
 }
@@ -123,12 +132,19 @@ fn paired(pairs: &[SmallPair]) -> SmallSet {
 
 /// Returns the pattern of Breaker's pairs: Breaker needs their points, and a few of its own that
 /// meet every line without a pair.
+///
+/// # Errors
+///
+/// `Memory` if an allocation fails.
 pub fn pairs_pattern(
     alloc: Global,
     arena: &Arena,
     spot: &Spot,
     pairs: &[SmallPair],
-) -> Result<Pattern, Memory> {
+) -> Result<Pattern, Memory>
+    ensures claimer { IfOk result (λ pattern. pattern.claimer ≡ Y) }
+    ensures moves { IfOk result (λ pattern. pattern.moves ≡ is_same_side spot.now.turn Y) }
+{
     let used = needed(alloc, arena, spot.y, pairs)?;
     let left = without_pair(alloc, arena.lines.as_slice(), used.as_slice())?;
     let held = hitting(alloc, left.as_slice(), spot.y)?;
@@ -136,7 +152,7 @@ pub fn pairs_pattern(
         held,
         zone: held.union(paired(used.as_slice())),
         claimer: Side::Y,
-        moves: spot.turn == Side::Y,
+        moves: spot.turn.is_same(Side::Y),
         reason: Reason::Pairs(used),
     })
 }
@@ -178,12 +194,22 @@ fn kept_points(
 /// Returns the pattern of Breaker's potential; `live` are the lines that Maker may still fill.
 /// Breaker needs the points that it can't concede, and a few of its own that meet every other
 /// line.
+///
+/// The potential is Erdős and Selfridge's (On a combinatorial game, 1973).
+///
+/// # Errors
+///
+/// `Memory` if an allocation fails.
 pub fn potential_pattern(
     alloc: Global,
     arena: &Arena,
     spot: &Spot,
     live: &[SmallSet],
-) -> Result<Pattern, Memory> {
+) -> Result<Pattern, Memory>
+    ensures reason { IfOk result (λ pattern. pattern.reason ≡ Potential) }
+    ensures claimer { IfOk result (λ pattern. pattern.claimer ≡ Y) }
+    ensures moves { IfOk result (λ pattern. pattern.moves ≡ is_same_side spot.now.turn Y) }
+{
     let dead = touched(alloc, arena.lines.as_slice(), spot.y)?;
     let held = hitting(alloc, dead.as_slice(), spot.y)?;
     let kept = kept_points(alloc, arena, spot, live)?;
@@ -191,7 +217,7 @@ pub fn potential_pattern(
         held,
         zone: held.union(kept),
         claimer: Side::Y,
-        moves: spot.turn == Side::Y,
+        moves: spot.turn.is_same(Side::Y),
         reason: Reason::Potential,
     })
 }
@@ -222,8 +248,13 @@ fn line_of_attack(
     best
 }
 
-/// Returns the pattern of Maker's threat line: Maker needs the lines that its attacks are on.
-pub fn threat_pattern(arena: &Arena, spot: &Spot, points: Vec<u8>) -> Pattern {
+/// Returns the pattern of Maker's threat line, whose points are attacks and replies in turn: Maker
+/// needs the lines that its attacks are on.
+pub fn threat_pattern(arena: &Arena, spot: &Spot, points: Vec<u8>) -> Pattern
+    ensures reason { result.reason ≡ Threat points }
+    ensures claimer { result.claimer ≡ X }
+    ensures moves { result.moves ≡ true }
+{
     let mut zone = SmallSet::empty();
     let mut mine = spot.x;
     for i in 0..points.len() {
