@@ -200,6 +200,11 @@ def settles(script: pathlib.Path, room: pathlib.Path) -> int:
         Case([slip, cert, "--entries=5"], 3, "game G6 line 4\n", "line 4: .* .G6.\n    line"),
         Case(["none", cert], 5, "", "none: "),
         Case([BOARD, str(room / "none" / "S")], 6, "", "warning: .*: there is no folder"),
+        Case(["moves", "examples/path.game"], 0,
+             "0 cut nodes 2 expanded 0\n1 cut nodes 2 expanded 0\nbest 0 1\n", "^$"),
+        Case(["moves", BOARD, "--images"], 2, "", "--images"),
+        Case(["moves", slip], 3, "game G6 line 4\n", "line 4: .* .G6.\n    line"),
+        Case(["moves", "none"], 5, "", "none: "),
     ]
     for case in cases:
         try_case(script, case)

@@ -274,6 +274,9 @@ COMPLETIONS = (
     ("posgame-settle wheel.game x.cert --", "--entries --help --images --json --nodes "
      "--positions --version"),
     ("posgame-settle --positions ", ""),
+    ("posgame-settle mo", "moves"),
+    ("posgame-settle moves tippy-c", "tippy-corner.game"),
+    ("posgame-settle moves tippy-corner.game --", "--entries --json --nodes --positions"),
 )
 
 

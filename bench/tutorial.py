@@ -12,7 +12,7 @@ indented blocks of a lesson:
 - "$ ./posgame ARGUMENTS" is run; a backslash at the end continues the line. Of the lines below it,
   those that begin like a text of the program must be its output, in order. The others are its
   input. A line of JSON (of `report` and `--json`) may be broken;
-- "$ ./posgame-settle ARGUMENTS" is run in the same way;
+- "$ ./posgame-settle ARGUMENTS" is run in the same way; all lines below `moves` are its output;
 - "$ echo $?" must print the exit status of the run before it;
 - "$ ./posgame-draw ARGUMENTS > FILE" is run if --draw names that program. If an image follows
   the block, FILE must equal it, to the byte.
@@ -61,8 +61,8 @@ class Walk:
         compares the others."""
         name, *words = shlex.split(command)
         below = ["".join(below)] if words[0] == "report" or "--json" in words else below
-        expected = [line for line in below if line.startswith(TEXTS)]
-        typed = "".join(f"{line}\n" for line in below if not line.startswith(TEXTS))
+        expected = [line for line in below if "moves" in words or line.startswith(TEXTS)]
+        typed = "".join(f"{line}\n" for line in below if line not in expected)
         ended = kit.call(self.programs[name], *words, cwd=self.folder, input=typed)
         self.status = ended.returncode
         self.compare(command, ended.stdout.splitlines() == expected)

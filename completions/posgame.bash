@@ -93,13 +93,27 @@ _posgame_settle() {
     COMPREPLY=()
     [ "$current" = = ] && current=''
     _posgame_read
-    if [ -n "$pending" ]; then
+    if [ "${COMP_WORDS[1]}" = moves ] && ((COMP_CWORD > 1)); then
+        _posgame_moves
+    elif [ -n "$pending" ]; then
         :
     elif [[ $current == -* ]]; then
         _posgame_words '--positions --entries --nodes --images --json --help --version' "$current"
     elif ((place < 2)); then
         local -a endings=(game cert)
         _posgame_files "${endings[place]}" "$current"
+        ((COMP_CWORD > 1)) || _posgame_words moves "$current"
+    fi
+}
+
+# The words after `posgame-settle moves`, as the caller has read them.
+_posgame_moves() {
+    if [ -n "$pending" ]; then
+        :
+    elif [[ $current == -* ]]; then
+        _posgame_words '--positions --entries --nodes --json' "$current"
+    elif ((place == 1)); then
+        _posgame_files game "$current"
     fi
 }
 

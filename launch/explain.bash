@@ -48,9 +48,15 @@ read_draw_words() {
     (($# < 3)) || [[ $3 =~ ^(${number}[.])?$number$ ]] || COMMAND=''
 }
 
-# Sets what `read_words` sets, for posgame-settle, whose words are two names and options.
+# Sets what `read_words` sets, for posgame-settle, whose words are two names and options, or else
+# `moves`, a name and options.
 read_settle_words() {
     COMMAND='' FAMILY='' GAME='' OTHER=''
+    if [[ ${1-} == moves ]]; then
+        split_words ' --positions --entries --nodes ' ' --json ' "${@:2}" || return 0
+        ((${#POSITIONALS[@]} == 1)) && COMMAND=moves GAME=${POSITIONALS[0]}
+        return 0
+    fi
     split_words ' --positions --entries --nodes ' ' --images --json ' "$@" || return 0
     ((${#POSITIONALS[@]} == 2)) || return 0
     COMMAND=settle GAME=${POSITIONALS[0]} OTHER=${POSITIONALS[1]}
@@ -307,6 +313,7 @@ ask_again() {
     case $COMMAND:$STATUS in
         draw:3) words=("$GAME") ;;
         draw:4) words=("$@") ;;
+        moves:3) words=(moves --positions 1 -- "$GAME") ;;
         settle:3) words=(--positions 1 -- "$GAME" /dev/null) ;;
         review:3) words=(review --positions 1 -- "$GAME" /dev/null) ;;
         *:3) words=(${FAMILY:+"$FAMILY"} check -- "$GAME" /dev/null) ;;
@@ -360,7 +367,10 @@ explain_fault() {
 
 # Status 1: what to try next.
 explain_open() {
-    if [[ $COMMAND == settle ]]; then
+    if [[ $COMMAND == moves ]]; then
+        say 'a value is unknown; try greater numbers after --positions and --entries' \
+            '(within a turn of several points none is looked for)'
+    elif [[ $COMMAND == settle ]]; then
         say 'no proof was found; try greater numbers after --positions and --entries, or the game' \
             'after some moves, with their marks in the game file'
     elif [[ $OPTIONS == *--positions* ]]; then

@@ -13,8 +13,8 @@ on PATH, or in the clone that contains this package. Nothing of the package itse
 """
 from .errors import (FileError, MoveRefused, PosgameError, ProgramMissing, Rejected, RunFailed)
 from .game import Game, Play, solve_many
-from .results import Claim, Loss, Report, ReportedClaim, Review, Solution
+from .results import Claim, Loss, Moves, Report, ReportedClaim, Review, Solution, Trial
 
-__all__ = ["Claim", "FileError", "Game", "Loss", "MoveRefused", "Play", "PosgameError",
+__all__ = ["Claim", "FileError", "Game", "Loss", "MoveRefused", "Moves", "Play", "PosgameError",
            "ProgramMissing", "Rejected", "Report", "ReportedClaim", "Review", "RunFailed",
-           "Solution", "solve_many"]
+           "Solution", "Trial", "solve_many"]

@@ -11,7 +11,7 @@ from typing import (Any, Dict, Generator, Hashable, Iterable, List, Mapping, Opt
 
 from .errors import PosgameError, error_of
 from .programs import Run, answer_of, bytes_of, is_there, run, text_of
-from .results import Claim, Loss, Report, ReportedClaim, Review, Solution
+from .results import Claim, Loss, Moves, Report, ReportedClaim, Review, Solution, Trial
 
 FAMILIES = {"posgame-span": "span", "posgame-vectors": "vec"}
 MOST_POINTS = 1_000  # No game of any kind has more.
@@ -176,13 +176,34 @@ class Game:
         certificate has at most `nodes` nodes. If one is none, the program has a limit of its own.
         `images` as in `solve`. It takes games on lines and switching games.
         """
-        limits = {"positions": positions, "entries": entries, "nodes": nodes}
         words = ["GAME", "CERT"] + (["--images"] if images else [])
-        words += [f"--{name}={limit}" for name, limit in limits.items() if limit is not None]
+        return self._solution(self._settled(words, positions, entries, nodes))
+
+    def moves(self, positions: Optional[int] = None, entries: Optional[int] = None,
+              nodes: Optional[int] = None) -> Moves:
+        """Returns the value after each legal move, and the moves that keep the value of the game,
+        by `posgame-settle moves`. The limits of `settle` apply to each move by itself.
+
+        >>> Game.from_lines([["a", "b"], ["a", "c"]], turn="y").moves().best
+        ('a',)
+        """
+        words = ["moves", "GAME", "--json"]
+        said = json.loads(answer_of(self._settled(words, positions, entries, nodes), [0, 1]).text)
+        trials = tuple(Trial(self.labels[move["point"]], move["result"], move["expanded"],
+                             move.get("nodes")) for move in said["moves"])
+        best = said["best"]
+        return Moves(trials, None if best is None else tuple(self.labels[v] for v in best))
+
+    def _settled(self, words: List[str], positions: Optional[int], entries: Optional[int],
+                 nodes: Optional[int]) -> Run:
+        """Returns the run of `posgame-settle` on the game with these arguments and limits."""
+        limits = {"positions": positions, "entries": entries, "nodes": nodes}
+        words = words + [f"--{name}={limit}" for name, limit in limits.items()
+                         if limit is not None]
         done = run("posgame-settle", words, {"GAME": bytes_of(self.text)})
         if done.status == 2:
             raise error_of("words: no meaning", done.status)
-        return self._solution(done)
+        return done
 
     def _solution(self, done: Run) -> Solution:
         """Returns the answer of a run that solves the game."""

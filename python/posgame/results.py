@@ -81,6 +81,29 @@ class Solution:
 
 
 @dataclass(frozen=True)
+class Trial:
+    """A move, and what is known of the position after it.
+
+    `answer` is its value, a winner or "draw", or "unknown"; `positions` is how many positions were
+    expanded, and `nodes` how many nodes the certificate has that proves the value.
+    """
+    point: Hashable
+    answer: str
+    positions: int
+    nodes: Optional[int] = None
+
+
+@dataclass(frozen=True)
+class Moves:
+    """The legal moves of a game, and those that keep its value.
+
+    `best` is none if the value after some move is unknown.
+    """
+    trials: Tuple[Trial, ...]
+    best: Optional[Tuple[Hashable, ...]]
+
+
+@dataclass(frozen=True)
 class Loss:
     """A move after which the value of the game is worse for the side that moved.
 

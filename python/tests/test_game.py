@@ -163,6 +163,32 @@ class Answers(unittest.TestCase):
         with self.assertRaises(FileError):
             Game.from_graph(edges).settle()
 
+    def test_moves(self) -> None:
+        if not is_there("posgame-settle"):
+            self.skipTest("posgame-settle is not found")
+        rows = [["a", "b"], ["a", "c"]]
+        moves = Game.from_lines(rows, turn="y").moves(entries=100_000)
+        self.assertEqual([(it.point, it.answer) for it in moves.trials],
+                         [("a", "breaker"), ("b", "maker"), ("c", "maker")])
+        self.assertEqual(moves.best, ("a",))
+        self.assertTrue(all(it.nodes for it in moves.trials))
+        for trial in moves.trials:
+            after = Game.from_lines(rows, points=["a", "b", "c"], y=[trial.point])
+            self.assertEqual(after.solve().answer, trial.answer)
+        over = Game.from_lines(rows, x=["a", "b"]).moves()
+        self.assertEqual((over.trials, over.best), ((), ()))
+        moves = Game.from_lines(ROWS, kind="maker-maker").moves(positions=1)
+        self.assertEqual((moves.trials[0].answer, moves.trials[0].nodes, moves.best),
+                         ("unknown", None, None))
+        edges = [("s", "t"), ("s", "v")]
+        cut = Game.from_graph(edges, terminals=("s", "t"), turn="y").moves()
+        self.assertEqual(([it.answer for it in cut.trials], cut.best),
+                         (["cut", "short"], (("s", "t"),)))
+        with self.assertRaises(RunFailed):
+            Game.from_lines(rows).moves(nodes=0)
+        with self.assertRaises(FileError):
+            Game.from_graph(edges).moves()
+
     def test_images(self) -> None:
         solution = Game.from_grid(3, 3, lines=ROWS).solve(images=True)
         self.assertTrue(str(solution.certificate).startswith("posgame-cert 3\n"))

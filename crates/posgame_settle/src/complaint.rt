@@ -20,6 +20,7 @@ pub(crate) fn say(rt: &HostRuntime, status: u8, asked: &Asked<'_>) {
             say_unreadable(rt, asked.game);
             Ok(())
         }
+        WRITE_FAILED if asked.moves => eprintln!(rt; "{NAME}: standard output couldn't be written"),
         WRITE_FAILED => eprintln!(rt; "{NAME}: {name} or standard output couldn't be written"),
         NO_MEMORY => eprintln!(rt; "{NAME}: out of memory"),
         _ => Ok(()),

@@ -1,13 +1,16 @@
 //! The program: it settles the game that its arguments name, and exits with a status.
 #![tactic(auto)]
 
+ghost use Rattle.pg_settle.specs.Budgets.{IsBudget};
+
 mod complaint;
 mod usage;
 
 use pg_finder::ProofNumbers;
 use pg_host::{HostConsole, HostFiles, guard_streams};
 use pg_messages::{NO_MEANING, NO_MEMORY, NO_WORDS};
-use pg_settle::{Order, budget_for, settle};
+use pg_moves::{MovesOrder, settle_moves};
+use pg_settle::{Budget, Order, budget_for, settle};
 use std::env;
 use std::io::ErrorKind;
 use std::process::ExitCode;
@@ -31,11 +34,34 @@ fn words_given(rt: &HostRuntime) -> Result<Vec<String>, u8> {
     Ok(words)
 }
 
-/// Settles the game, and returns the status.
+/// Tries the moves of the game, and returns the status.
+fn run_on_moves(rt: &HostRuntime, asked: &Asked<'_>, budget: Budget) -> u8
+    requires { IsBudget budget }
+{
+    let order = MovesOrder {
+        game: asked.game,
+        budget,
+        json: asked.json,
+    };
+    let mut files = HostFiles::new(rt);
+    let mut console = HostConsole::new(rt);
+    settle_moves(
+        rt.alloc(),
+        order,
+        &mut ProofNumbers,
+        &mut files,
+        &mut console,
+    )
+}
+
+/// Settles the game, or tries its moves, and returns the status.
 fn run(rt: &HostRuntime, asked: &Asked<'_>) -> u8 {
     let Some(budget) = budget_for(asked.positions, asked.entries, asked.nodes) else {
         return NO_MEANING;
     };
+    if asked.moves {
+        return run_on_moves(rt, asked, budget);
+    }
     let order = Order {
         game: asked.game,
         certificate: asked.certificate,

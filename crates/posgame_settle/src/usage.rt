@@ -10,6 +10,9 @@ use std::alloc::Global;
 /// The name that the program has in its messages.
 pub(crate) const NAME: &str = "posgame-settle";
 
+/// The name of the subcommand that tries the moves of a game.
+const MOVES: &str = "moves";
+
 /// What is asked for.
 #[derive(Clone, Copy, Debug)]
 pub(crate) struct Asked<'a> {
@@ -27,6 +30,8 @@ pub(crate) struct Asked<'a> {
     pub(crate) images: bool,
     /// Whether the result is printed as JSON.
     pub(crate) json: bool,
+    /// Whether the values after the moves are asked for, and no certificate.
+    pub(crate) moves: bool,
 }
 
 /// Returns an option that takes a number from 1 to `most`.
@@ -39,9 +44,18 @@ fn number<'a>(alloc: Global, name: &'a str, most: u32, help: &'a str) -> Arg<'a>
         .help(help)
 }
 
-/// Adds the options that bound the search.
-fn with_budget<'a>(alloc: Global, command: Command<'a>) -> Result<Command<'a>, Error> {
+/// Adds the argument GAME, the options that bound the search, and that for JSON.
+fn with_game<'a>(alloc: Global, command: Command<'a>) -> Result<Command<'a>, Error> {
+    let game = Arg::new(alloc, "GAME")
+        .required(true)
+        .help("The file of a game");
+    let json = Arg::new(alloc, "json")
+        .long("json")
+        .action(ArgAction::SetTrue)
+        .help("Print one line of JSON");
     let command = command
+        .arg(game)?
+        .arg(json)?
         .arg(number(
             alloc,
             "positions",
@@ -63,11 +77,16 @@ fn with_budget<'a>(alloc: Global, command: Command<'a>) -> Result<Command<'a>, E
     Ok(command)
 }
 
-/// Returns the command with its two positional arguments and its options.
+/// Returns the subcommand that tries the moves of a game.
+fn moves_command<'a>(alloc: Global) -> Result<Command<'a>, Error> {
+    let command = Command::new(alloc, MOVES).about(
+        "Prints the value after each move of a game, and which moves are best",
+    );
+    with_game(alloc, command)
+}
+
+/// Returns the command with its two positional arguments, its options and its subcommand.
 fn command<'a>(alloc: Global) -> Result<Command<'a>, Error> {
-    let game = Arg::new(alloc, "GAME")
-        .required(true)
-        .help("The file of a game");
     let certificate = Arg::new(alloc, "CERT")
         .required(true)
         .help("The file that the certificate is written to");
@@ -75,17 +94,14 @@ fn command<'a>(alloc: Global) -> Result<Command<'a>, Error> {
         .long("images")
         .action(ArgAction::SetTrue)
         .help("Write nodes that are turned or reflected as images of others");
-    let json = Arg::new(alloc, "json")
-        .long("json")
-        .action(ArgAction::SetTrue)
-        .help("Print the result as one line of JSON");
     let command = Command::new(alloc, NAME)
         .no_binary_name(true)
         .version(VERSION)
         .about("Settles a positional game by a certificate that the proved checker accepts")
-        .arg(game)?
-        .arg(certificate)?;
-    let command = with_budget(alloc, command)?.arg(images)?.arg(json)?;
+        .args_conflicts_with_subcommands(true)
+        .disable_help_subcommand(true)
+        .subcommand(moves_command(alloc)?)?;
+    let command = with_game(alloc, command)?.arg(certificate)?.arg(images)?;
     Ok(command)
 }
 
@@ -93,14 +109,17 @@ fn command<'a>(alloc: Global) -> Result<Command<'a>, Error> {
 /// they ask for, or what is wrong with them.
 pub(crate) fn read_words<'a>(alloc: Global, words: &'a [String]) -> Result<Asked<'a>, Error> {
     let found = command(alloc)?.try_get_matches_from(words)?;
+    let moves = found.subcommand_matches(MOVES);
+    let given = moves.unwrap_or(&found);
     Ok(Asked {
-        game: found.get_str("GAME").unwrap_or(""),
+        game: given.get_str("GAME").unwrap_or(""),
         certificate: found.get_str("CERT").unwrap_or(""),
-        positions: found.get_one::<u32>("positions"),
-        entries: found.get_one::<u32>("entries"),
-        nodes: found.get_one::<u32>("nodes"),
+        positions: given.get_one::<u32>("positions"),
+        entries: given.get_one::<u32>("entries"),
+        nodes: given.get_one::<u32>("nodes"),
         images: found.get_flag("images"),
-        json: found.get_flag("json"),
+        json: given.get_flag("json"),
+        moves: moves.is_some(),
     })
 }
 

@@ -1,8 +1,10 @@
 //! Rows of a script.
+ghost use Rattle.pg_settle.specs.Budgets.{IsBudget};
+
 use crate::stand_in::StandIn;
-use pg_base::Score;
 use pg_io::{Entry, MemConsole, MemFiles, Text};
-use pg_settle::{Order, budget_for, settle};
+use pg_moves::{MovesOrder, settle_moves};
+use pg_settle::{Budget, Order, budget_for, settle};
 use std::alloc::{AllocError, Global};
 use std::fmt::Write;
 
@@ -58,20 +60,46 @@ fn files_of(alloc: Global, row: &str) -> Result<MemFiles, AllocError> {
     Ok(MemFiles::new(alloc, files, failing(alloc, row, "fails on files ")?))
 }
 
-/// The score for which the certificate is brought.
-fn score_of(row: &str) -> Score {
-    match entry(row, "score ") {
-        "x" => Score::XWins,
-        "y" => Score::YWins,
-        _ => Score::Draw,
+/// Runs what the row asks for, and returns the status.
+fn status_of(
+    alloc: Global,
+    row: &str,
+    certificates: &str,
+    budget: Budget,
+    files: &mut MemFiles,
+    console: &mut MemConsole,
+) -> u8
+    requires { IsBudget budget }
+{
+    let mut finder = StandIn {
+        scores: entry(row, "score "),
+        certificates,
+        calls: 0,
+    };
+    let json = entry(row, "printed as ") == "json";
+    if entry(row, "asks for ") == "moves" {
+        let order = MovesOrder {
+            game: "G",
+            budget,
+            json,
+        };
+        return settle_moves(alloc, order, &mut finder, files, console);
     }
+    let order = Order {
+        game: "G",
+        certificate: "C",
+        budget,
+        images: entry(row, "stored as ") == "images",
+        json,
+    };
+    settle(alloc, order, &mut finder, files, console)
 }
 
 /// Adds the status of a run, what it says, and what it stores as C.
 fn push_run(
     alloc: Global,
     row: &str,
-    certificate: &str,
+    certificates: &str,
     files: &mut MemFiles,
     console: &mut MemConsole,
     text: &mut String,
@@ -79,18 +107,7 @@ fn push_run(
     let Some(budget) = budget_for(Some(POSITIONS), None, None) else {
         return Ok(());
     };
-    let order = Order {
-        game: "G",
-        certificate: "C",
-        budget,
-        images: entry(row, "stored as ") == "images",
-        json: entry(row, "printed as ") == "json",
-    };
-    let mut finder = StandIn {
-        score: score_of(row),
-        certificate,
-    };
-    let status = settle(alloc, order, &mut finder, files, console);
+    let status = status_of(alloc, row, certificates, budget, files, console);
     write!(text, "status {status};")?;
     for said in console.entries() {
         if let Entry::Said(said) = said {
@@ -107,14 +124,14 @@ fn push_run(
 /// What comes of a row.
 pub(crate) fn told(alloc: Global, row: &str) -> Result<String, AllocError> {
     let mut files = files_of(alloc, row)?;
-    let certificate = entry(row, "brings ").replace(alloc, ";", "\n")?;
+    let certificates = entry(row, "brings ").replace(alloc, ";", "\n")?;
     let fails = failing(alloc, row, "fails on the console ")?;
     let mut console = MemConsole::new(alloc, Text::from_vec(Vec::new(alloc)), fails);
     let mut text = String::new(alloc);
     push_run(
         alloc,
         row,
-        certificate.as_str(),
+        certificates.as_str(),
         &mut files,
         &mut console,
         &mut text,

@@ -1,0 +1,6 @@
+pub mod Prelude
+pub mod Trials
+pub mod Best
+pub mod Lines
+pub mod JsonLines
+pub mod MoveRuns
