@@ -1,17 +1,17 @@
 //! The search, down and up the board.
-ghost use Rattle.std.specs.Prelude.{◌≡◌, ◌<◌, ◌≤◌};
-ghost use Rattle.pg_dfpn.specs.Prelude.{Fits, lines_of};
+ghost use Rattle.std.specs.Prelude.{◌≡◌, ◌<◌, ◌≤◌, ◌+◌};
+ghost use Rattle.pg_dfpn.specs.Prelude.{Fits, hash_map_len, lines_of};
 ghost use Rattle.pg_dfpn.specs.Asking.{IsRead};
 
 use crate::judging::{Asked, judged};
 use crate::moving::{play_free, undo_last};
-use crate::numbers::{Numbers, State};
+use crate::numbers::Numbers;
+use crate::signature::Signature;
 use crate::survey::{Frame, Survey};
 use crate::table::Table;
 use pg_base::{MAX_MEMBERS, Memory};
 use pg_board::Board;
-use pg_game::{Game, Position};
-use pg_leaf::Key;
+use pg_game::Position;
 use pg_match::PairCache;
 use std::alloc::Global;
 
@@ -27,23 +27,45 @@ pub(crate) struct Search {
 }
 
 /// The numbers after the move to the point.
-pub(crate) fn numbers_after(g: &Game, p: &Position, v: u16, table: &Table) -> Option<Numbers>
+fn numbers_after(asked: Asked<'_>, p: &Position, v: u16, table: &Table) -> Option<Numbers>
     requires { v < MAX_MEMBERS }
 {
-    table.find(&Key::of(&g.after(p, v)))
+    table.find(&asked.signatures.at(&asked.game.after(p, v)))
 }
 
 /// What the moves at the position tell that were met.
-pub(crate) fn survey_at(g: &Game, p: &Position, table: &Table) -> Survey {
+pub(crate) fn survey_at(asked: Asked<'_>, p: &Position, table: &Table) -> Survey {
     let mut survey = Survey::new(p.turn);
-    for v in 0..g.points() {
+    for v in 0..asked.game.points() {
         if p.is_free(v) {
-            if let Some(numbers) = numbers_after(g, p, v, table) {
+            if let Some(numbers) = numbers_after(asked, p, v, table) {
                 survey.put(v, &numbers);
             }
         }
     }
     survey
+}
+
+/// The numbers of the position of the board, which is judged if it wasn't met.
+pub(crate) fn met(
+    alloc: Global,
+    asked: Asked<'_>,
+    board: &mut Board<'_>,
+    cache: &mut PairCache,
+    table: &mut Table,
+) -> Result<Numbers, Memory>
+    requires reads { IsRead asked.game.now asked.question board.old cache.old }
+    ensures game { board.new.game ≡ board.old.game }
+    ensures fits { Fits cache.new (lines_of asked.entry.game.now) }
+    ensures most { table.new.most ≡ table.old.most }
+{
+    let key = asked.signatures.at(&board.position());
+    if let Some(numbers) = table.find(&key) {
+        return Ok(numbers);
+    }
+    let numbers = judged(alloc, asked, board, cache)?;
+    table.put(key, numbers)?;
+    Ok(numbers)
 }
 
 /// Judges the position after the move to the point, where it was not met, and tells whether the
@@ -63,7 +85,7 @@ fn meet(
     ensures fits { Fits cache.new (lines_of asked.entry.game.now) }
     ensures most { table.new.most ≡ table.old.most }
 {
-    let key = Key::of(&asked.game.after(p, v));
+    let key = asked.signatures.at(&asked.game.after(p, v));
     if let Some(numbers) = table.find(&key) {
         return Ok(numbers.of(p.turn) == 0);
     }
@@ -96,15 +118,16 @@ fn expand(
     Ok(())
 }
 
-/// Whether the position is expanded.
-fn is_expanded(p: &Position, table: &Table) -> bool {
-    match table.find(&Key::of(p)) {
-        Some(numbers) => numbers.state == State::Expanded,
+/// Whether the position of the signature is expanded.
+fn is_expanded(key: &Signature, table: &Table) -> bool {
+    match table.find(key) {
+        Some(numbers) => numbers.is_expanded(),
         None => false,
     }
 }
 
-/// What the moves at the position of the board tell, which is expanded where it isn't yet.
+/// What the moves at the position of the board tell, which is expanded if it isn't yet, and then
+/// counted: without that no position is met.
 fn visit(
     alloc: Global,
     asked: Asked<'_>,
@@ -117,16 +140,32 @@ fn visit(
     ensures game { board.new.game ≡ board.old.game }
     ensures fits { Fits cache.new (lines_of asked.entry.game.now) }
     ensures most { search.new.table.most ≡ search.old.table.most }
-    ensures few { search.new.expanded ≤ asked.entry.limits.positions }
+    ensures counted { (search.old.expanded ≤ search.new.expanded)
+        × (search.new.expanded ≤ search.old.expanded + 1) }
+    ensures met { search.new.expanded ≡ search.old.expanded
+        → hash_map_len search.new.table.numbers ≡ hash_map_len search.old.table.numbers }
 {
     let p = board.position();
-    if !is_expanded(&p, &search.table) {
-        search.expanded += 1;
-        expand(alloc, asked, &p, board, cache, &mut search.table)?;
+    let key = asked.signatures.at(&p);
+    if is_expanded(&key, &search.table) {
+        let survey = survey_at(asked, &p, &search.table);
+        search.table.renew(&key, survey.numbers());
+        return Ok(survey);
     }
-    let survey = survey_at(asked.game, &p, &search.table);
-    search.table.put(Key::of(&p), survey.numbers())?;
+    search.expanded += 1;
+    expand(alloc, asked, &p, board, cache, &mut search.table)?;
+    let survey = survey_at(asked, &p, &search.table);
+    search.table.put(key, survey.numbers())?;
     Ok(survey)
+}
+
+/// Goes up to the position of the last frame, if there is one.
+fn go_back(board: &mut Board<'_>, frames: &[Frame])
+    ensures { board.new.game ≡ board.old.game }
+{
+    if !frames.is_empty() {
+        undo_last(board);
+    }
 }
 
 /// Goes down to the best move, or up where the last frame is reached.
@@ -137,11 +176,11 @@ fn go_on(board: &mut Board<'_>, survey: &Survey, frames: &mut Vec<Frame>) -> Res
         return Ok(());
     };
     let Some(v) = survey.point() else {
-        undo_last(board);
+        go_back(board, frames.as_slice());
         return Ok(());
     };
     if frame.is_reached(&survey.numbers()) {
-        undo_last(board);
+        go_back(board, frames.as_slice());
         return Ok(());
     }
     frames.push(frame)?;
@@ -150,29 +189,28 @@ fn go_on(board: &mut Board<'_>, survey: &Survey, frames: &mut Vec<Frame>) -> Res
     Ok(())
 }
 
-/// Searches on from the position of the board until its answer is known, or as much is used as may
-/// be. The board may stand below afterwards.
+/// Searches on from the position of the board until its answer is known, the table is full, or so
+/// many positions are expanded. The board may stand below afterwards.
 pub(crate) fn descend(
     alloc: Global,
     asked: Asked<'_>,
+    most: u32,
     board: &mut Board<'_>,
     cache: &mut PairCache,
     search: &mut Search,
 ) -> Result<(), Memory>
     requires reads { IsRead asked.game.now asked.question board.old cache.old }
-    requires few { search.old.expanded ≤ asked.limits.positions }
+    requires few { search.old.expanded ≤ most }
+    requires within { most ≤ asked.limits.positions }
     ensures game { board.new.game ≡ board.old.game }
     ensures fits { Fits cache.new (lines_of asked.entry.game.now) }
     ensures most { search.new.table.most ≡ search.old.table.most }
-    ensures few { search.new.expanded ≤ asked.entry.limits.positions }
+    ensures few { search.new.expanded ≤ most }
 {
     let mut frames = Vec::new(alloc);
     frames.push(Frame::whole())?;
-    for _step in 0..VISITS * u64::from(asked.limits.positions) {
-        if frames.is_empty()
-            || search.table.is_full()
-            || search.expanded >= asked.limits.positions
-        {
+    for _step in 0..VISITS * u64::from(most) {
+        if frames.is_empty() || search.table.is_full() || search.expanded >= most {
             return Ok(());
         }
         let survey = visit(alloc, asked, board, cache, search)?;

@@ -4,7 +4,7 @@ ghost use Rattle.pg_dfpn.specs.Prelude.{All, Fits, IsReply, Reply, claimer, free
 ghost use Rattle.pg_dfpn.specs.Asking.{IsRead};
 ghost use Rattle.pg_dfpn.specs.Drafted.{AreFit, IsPlainBody};
 
-use crate::descent::{numbers_after, survey_at};
+use crate::descent::survey_at;
 use crate::judging::{Asked, judge};
 use crate::moving::{play_free, undo_last};
 use crate::numbers::State;
@@ -103,31 +103,39 @@ impl Draft {
         None
     }
 
+    /// The first free point that leads to a node, with its number: each node is won.
+    fn first_known(&self, g: &Game, p: &Position) -> Option<(u16, u32)>
+        ensures point { IfSome result (λ m. m.0 < MAX_MEMBERS) }
+        ensures child { IfSome result (λ m. m.1 < MAX_CLAIM_NODES) }
+    {
+        for v in 0..g.points() {
+            if p.is_free(v) {
+                if let Some(child) = self.number_after(g, p, v) {
+                    return Some((v, child));
+                }
+            }
+        }
+        None
+    }
+
     /// The point that leads to a node which must come before that of the position, and None where
     /// there is none.
-    fn missing(&self, g: &Game, p: &Position, table: &Table) -> Option<u16> {
-        let numbers = table.find(&Key::of(p))?;
+    fn missing(&self, asked: Asked<'_>, p: &Position, table: &Table) -> Option<u16> {
+        let numbers = table.find(&asked.signatures.at(p))?;
         if numbers.state == State::Leaf {
             return None;
         }
         if p.turn != claimer(self.answer) {
-            return self.first_missing(g, p);
+            return self.first_missing(asked.game, p);
         }
-        let v = survey_at(g, p, table).winning()?;
-        match self.number_after(g, p, v) {
+        match self.first_known(asked.game, p) {
             Some(_) => None,
-            None => Some(v),
+            None => survey_at(asked, p, table).winning(),
         }
     }
 
     /// The body that rests on earlier nodes.
-    fn inner(
-        &self,
-        alloc: Global,
-        g: &Game,
-        p: &Position,
-        table: &Table,
-    ) -> Result<Option<Body>, Memory>
+    fn inner(&self, alloc: Global, g: &Game, p: &Position) -> Result<Option<Body>, Memory>
         ensures { IfOk result (λ r. IfSome r IsPlainBody) }
     {
         if p.turn != claimer(self.answer) {
@@ -136,11 +144,8 @@ impl Draft {
                 None => Ok(None),
             };
         }
-        let Some(point) = survey_at(g, p, table).winning() else {
-            return Ok(None);
-        };
-        match self.number_after(g, p, point) {
-            Some(child) => Ok(Some(Body::Move { point, child })),
+        match self.first_known(g, p) {
+            Some((point, child)) => Ok(Some(Body::Move { point, child })),
             None => Ok(None),
         }
     }
@@ -160,13 +165,14 @@ impl Draft {
         ensures body { IfOk result (λ r. IfSome r IsPlainBody) }
     {
         let p = board.position();
-        let Some(numbers) = table.find(&Key::of(&p)) else {
+        let Some(numbers) = table.find(&asked.signatures.at(&p)) else {
             return Ok(None);
         };
         if numbers.state != State::Leaf {
-            return self.inner(alloc, asked.game, &p, table);
+            return self.inner(alloc, asked.game, &p);
         }
-        match judge(alloc, asked, board, cache)? {
+        let steps = asked.limits.first_steps.max(asked.limits.steps);
+        match judge(alloc, asked, steps, board, cache)? {
             Some((answer, body)) => {
                 if answer == self.answer {
                     Ok(Some(body))
@@ -232,7 +238,7 @@ impl Draft {
     {
         for _step in 0..2 * MAX_CLAIM_NODES {
             let p = board.position();
-            if let Some(v) = self.missing(asked.game, &p, table) {
+            if let Some(v) = self.missing(asked, &p, table) {
                 play_free(board, v);
                 continue;
             }

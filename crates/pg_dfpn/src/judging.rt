@@ -6,6 +6,7 @@ ghost use Rattle.pg_dfpn.specs.Drafted.{IsPlainBody};
 
 use crate::limits::Limits;
 use crate::numbers::{Numbers, first_numbers};
+use crate::signature::Signatures;
 use pg_base::{Kind, Memory, Pairs, Score, Side};
 use pg_board::Board;
 use pg_cert::Body;
@@ -21,6 +22,8 @@ pub(crate) struct Asked<'a> {
     pub(crate) game: &'a Game,
     pub(crate) question: Score,
     pub(crate) limits: Limits,
+    /// The signatures of the game's positions.
+    pub(crate) signatures: &'a Signatures,
     /// What the lines weigh at the game's own position.
     pub(crate) total: u128,
 }
@@ -47,6 +50,7 @@ fn steps_at(board: &Board<'_>, limits: &Limits) -> u32 {
 pub(crate) fn judge(
     alloc: Global,
     asked: Asked<'_>,
+    steps: u32,
     board: &mut Board<'_>,
     cache: &mut PairCache,
 ) -> Result<Option<(bool, Body)>, Memory>
@@ -60,7 +64,6 @@ pub(crate) fn judge(
         return Ok(Some(found));
     }
     let side = defender(asked.game.kind, asked.question);
-    let steps = steps_at(board, &asked.limits);
     match shared_pairs(alloc, asked.game, &p, side, steps)? {
         Some(pairs) => Ok(Some((side == Side::X, Body::Pairs(Pairs::from_vec(pairs))))),
         None => Ok(None),
@@ -78,7 +81,8 @@ pub(crate) fn judged(
     ensures game { board.new.game ≡ board.old.game }
     ensures fits { Fits cache.new (lines_of asked.entry.game.now) }
 {
-    if let Some((answer, _body)) = judge(alloc, asked, board, cache)? {
+    let steps = steps_at(board, &asked.limits);
+    if let Some((answer, _body)) = judge(alloc, asked, steps, board, cache)? {
         return Ok(Numbers::leaf(answer));
     }
     let is_avoider = asked.game.kind == Kind::AvoiderEnforcer;

@@ -9,8 +9,10 @@ mod limits;
 mod moving;
 mod numbers;
 mod settling;
+mod signature;
 mod survey;
 mod table;
+mod widening;
 
 pub use limits::Limits;
 pub use settling::{Settled, Settling, settle};

@@ -1,5 +1,5 @@
 //! Moves on the board.
-ghost use Rattle.std.specs.Prelude.{◌≡◌, ◌<◌, length, true};
+ghost use Rattle.std.specs.Prelude.{◌≡◌, ◌<◌, ◌≤◌, length, true};
 ghost use Rattle.pg_dfpn.specs.Prelude.{point_count, is_free, after};
 
 use pg_board::Board;
@@ -25,12 +25,12 @@ pub(crate) fn undo_last(board: &mut Board<'_>)
     }
 }
 
-/// Takes back all plays.
-pub(crate) fn go_up(board: &mut Board<'_>)
+/// Takes back plays until no more than so many stand.
+pub(crate) fn go_up_to(board: &mut Board<'_>, plays: usize)
     ensures game { board.new.game ≡ board.old.game }
-    ensures earlier { length board.new.earlier ≡ 0 }
+    ensures earlier { length board.new.earlier ≤ plays }
 {
-    while board.plays() > 0 {
+    while board.plays() > plays {
         board.undo();
     }
 }

@@ -18,6 +18,8 @@ pub(crate) enum State {
     Leaf,
     /// It was expanded.
     Expanded,
+    /// It was expanded, and the claimer's other moves were searched there and below.
+    Widened,
 }
 
 /// How hard it seems to show that the answer is yes, and that it is no: 0 where it is so, and
@@ -54,6 +56,14 @@ impl Numbers {
         match side {
             Side::X => self.proof,
             Side::Y => self.disproof,
+        }
+    }
+
+    /// Whether the position was expanded.
+    pub(crate) fn is_expanded(&self) -> bool {
+        match self.state {
+            State::Met | State::Leaf => false,
+            State::Expanded | State::Widened => true,
         }
     }
 

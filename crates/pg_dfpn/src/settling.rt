@@ -5,17 +5,18 @@ ghost use Rattle.pg_dfpn.specs.Asking.{IsRead};
 ghost use Rattle.pg_game.specs.Decided.{claimer as claimer_of, claimed_goal as claimed_by};
 ghost use Rattle.pg_dfpn.specs.Settled.{IsSettled};
 
-use crate::descent::{Search, descend};
+use crate::descent::{Search, descend, met};
 use crate::drafting::{Draft, claimer};
-use crate::judging::{Asked, judged, total_at};
+use crate::judging::{Asked, total_at};
 use crate::limits::Limits;
-use crate::moving::go_up;
+use crate::moving::go_up_to;
+use crate::signature::Signatures;
 use crate::table::Table;
+use crate::widening::widen;
 use pg_base::{Goal, Kind, Memory, Score};
 use pg_board::Board;
 use pg_cert::{Claim, Nodes};
 use pg_game::Game;
-use pg_leaf::Key;
 use pg_match::PairCache;
 use std::alloc::Global;
 
@@ -83,7 +84,59 @@ fn claimed(
     Ok(Settled::No(claim))
 }
 
-/// Searches from the position of the board, at which no play stands.
+/// Searches for the answer at the position of the board, at which no play stands.
+fn search_answer(
+    alloc: Global,
+    asked: Asked<'_>,
+    board: &mut Board<'_>,
+    cache: &mut PairCache,
+    search: &mut Search,
+) -> Result<Option<bool>, Memory>
+    requires reads { IsRead asked.game.now asked.question board.old cache.old }
+    requires few { search.old.expanded ≤ asked.limits.positions }
+    ensures game { board.new.game ≡ board.old.game }
+    ensures fits { Fits cache.new (lines_of asked.entry.game.now) }
+    ensures most { search.new.table.most ≡ search.old.table.most }
+    ensures few { search.new.expanded ≤ asked.entry.limits.positions }
+{
+    let key = asked.signatures.at(&board.position());
+    let first = met(alloc, asked, board, cache, &mut search.table)?;
+    if first.answer().is_none() {
+        descend(alloc, asked, asked.limits.positions, board, cache, search)?;
+        go_up_to(board, 0);
+    }
+    match search.table.find(&key) {
+        Some(numbers) => Ok(numbers.answer()),
+        None => Ok(None),
+    }
+}
+
+/// Searches the claimer's other moves, so that the claim of the answer may be smaller; but not in
+/// Maker-Maker, where moves take long to judge.
+fn search_wider(
+    alloc: Global,
+    asked: Asked<'_>,
+    answer: bool,
+    board: &mut Board<'_>,
+    cache: &mut PairCache,
+    search: &mut Search,
+) -> Result<(), Memory>
+    requires reads { IsRead asked.game.now asked.question board.old cache.old }
+    requires few { search.old.expanded ≤ asked.limits.positions }
+    ensures game { board.new.game ≡ board.old.game }
+    ensures fits { Fits cache.new (lines_of asked.entry.game.now) }
+    ensures most { search.new.table.most ≡ search.old.table.most }
+    ensures few { search.new.expanded ≤ asked.entry.limits.positions }
+{
+    if asked.game.kind != Kind::MakerMaker {
+        widen(alloc, asked, claimer(answer), board, cache, search)?;
+        go_up_to(board, 0);
+    }
+    Ok(())
+}
+
+/// Searches from the position of the board, at which no play stands: for the answer, and then for a
+/// smaller claim.
 fn search_from(
     alloc: Global,
     asked: Asked<'_>,
@@ -98,17 +151,11 @@ fn search_from(
     ensures most { search.new.table.most ≡ search.old.table.most }
     ensures few { search.new.expanded ≤ asked.entry.limits.positions }
 {
-    let key = Key::of(&board.position());
-    let first = judged(alloc, asked, board, cache)?;
-    search.table.put(key, first)?;
-    if first.answer().is_none() {
-        descend(alloc, asked, board, cache, search)?;
-        go_up(board);
-    }
-    match search.table.find(&key) {
-        Some(numbers) => Ok(numbers.answer()),
-        None => Ok(None),
-    }
+    let Some(answer) = search_answer(alloc, asked, board, cache, search)? else {
+        return Ok(None);
+    };
+    search_wider(alloc, asked, answer, board, cache, search)?;
+    Ok(Some(answer))
 }
 
 /// The answer at the position of the board, at which no play stands.
@@ -139,17 +186,45 @@ fn settle_on(
     })
 }
 
+/// The answer at the game's position, by the signatures of the game.
+fn settle_with(
+    alloc: Global,
+    g: &Game,
+    question: Score,
+    limits: Limits,
+    signatures: &Signatures,
+) -> Result<Settling, Memory>
+    requires question { IsQuestion g.now.kind question }
+    requires lines { g.now.kind ≢ Switching }
+    ensures answer { IfOk result (λ found. IsSettled g.now question found.answer) }
+    ensures expanded { IfOk result (λ found. found.expanded ≤ limits.positions) }
+    ensures entries { IfOk result (λ found. found.entries ≤ limits.entries) }
+{
+    let mut cache = PairCache::new(alloc, MOST_ANSWERS)?;
+    let mut board = Board::open(alloc, g, &g.start())?;
+    let asked = Asked {
+        game: g,
+        question,
+        limits,
+        signatures,
+        total: total_at(&board),
+    };
+    settle_on(alloc, asked, &mut board, &mut cache)
+}
+
 /// Whether X reaches the score from the game's position, with a claim that is to show it; or that
 /// the limits don't suffice.
 ///
 /// It is a search by proof numbers to the depth (df-pn: A. Nagai, Df-pn Algorithm for Searching
-/// AND/OR Trees and Its Applications, 2002) over a table of exact positions. Leaves are those of
-/// the criteria (`leaf` of `pg_leaf`) and shared pairs. The mover's number is the least of those
-/// below; the other side's is the greatest and four times the logarithm of how many there are to
-/// the base 2. A first number is eight times the ratio of what the lines weigh to what they weigh
-/// at the game's position, or the other way round. The best move is followed until its number is
-/// beyond the second one by more than a quarter. Of the moves that win the claim has the one whose
-/// tree is least, and a position once.
+/// AND/OR Trees and Its Applications, 2002) over a table of positions, in which those that differ
+/// by dead points or by a map of the board are one. Leaves are those of the criteria (`leaf` of
+/// `pg_leaf`) and shared pairs. The mover's number is the least of those below; the other side's is
+/// the greatest and four times the logarithm of how many there are to the base 2. A first number is
+/// eight times the ratio of what the lines weigh to what they weigh at the game's position, or the
+/// other way round. The best move is followed until its number is beyond the second one by more
+/// than a quarter. Once the answer is known, the claimer's other moves are searched for a while,
+/// but in Maker-Maker. Of the moves that win the claim has one to a position that it has already,
+/// or else the one whose tree is least; and a position once.
 ///
 /// A claim is within the limits of version 1 of the format, so the checker may be asked. That it is
 /// valid no clause says.
@@ -164,13 +239,6 @@ pub fn settle(alloc: Global, g: &Game, question: Score, limits: Limits) -> Resul
     ensures expanded { IfOk result (λ found. found.expanded ≤ limits.positions) }
     ensures entries { IfOk result (λ found. found.entries ≤ limits.entries) }
 {
-    let mut cache = PairCache::new(alloc, MOST_ANSWERS)?;
-    let mut board = Board::open(alloc, g, &g.start())?;
-    let asked = Asked {
-        game: g,
-        question,
-        limits,
-        total: total_at(&board),
-    };
-    settle_on(alloc, asked, &mut board, &mut cache)
+    let signatures = Signatures::of_game(alloc, g)?;
+    settle_with(alloc, g, question, limits, &signatures)
 }

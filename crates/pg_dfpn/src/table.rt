@@ -1,18 +1,18 @@
-//! The positions that a search has met.
+//! The positions that a search has met, by their signatures.
 ghost use Rattle.std.specs.Prelude.{◌≡◌, ◌≤◌, ◌↔◌, IsTrue};
 ghost use Rattle.pg_dfpn.specs.Prelude.{hash_map_len};
 
 use crate::numbers::Numbers;
+use crate::signature::Signature;
 use pg_base::Memory;
-use pg_leaf::Key;
 use std::alloc::Global;
 use std::collections::HashMap;
 
-/// The numbers of positions, no more than so many.
+/// The numbers of the signatures of positions, no more than so many.
 #[derive(Debug, Drop)]
 pub(crate) struct Table {
     most: u32,
-    numbers: HashMap<Key, Numbers>,
+    numbers: HashMap<Signature, Numbers>,
     ghost few: { hash_map_len numbers ≤ most },
 }
 
@@ -42,15 +42,25 @@ impl Table {
     }
 
     /// The numbers of a position, where it was met.
-    pub(crate) fn find(&self, key: &Key) -> Option<Numbers> {
+    pub(crate) fn find(&self, key: &Signature) -> Option<Numbers> {
         match self.numbers.get(key) {
             Some(numbers) => Some(*numbers),
             None => None,
         }
     }
 
+    /// Replaces the numbers of a position that was met.
+    pub(crate) fn renew(&mut self, key: &Signature, numbers: Numbers)
+        ensures most { self.new.most ≡ self.old.most }
+        ensures len { hash_map_len self.new.numbers ≡ hash_map_len self.old.numbers }
+    {
+        if let Some(known) = self.numbers.get_mut(key) {
+            *known = numbers;
+        }
+    }
+
     /// Keeps the numbers of a position, where there is room for one more.
-    pub(crate) fn put(&mut self, key: Key, numbers: Numbers) -> Result<(), Memory>
+    pub(crate) fn put(&mut self, key: Signature, numbers: Numbers) -> Result<(), Memory>
         ensures { self.new.most ≡ self.old.most }
     {
         if self.is_full() {

@@ -7,5 +7,5 @@ invariant-loop-step l = record {
   game : l.board.game ≡ l.fn.board.game;
   fits : Fits l.cache (lines_of l.asked.game.now);
   most : l.search.table.most ≡ l.fn.search.table.most;
-  few : l.search.expanded ≤ l.asked.limits.positions;
+  few : l.search.expanded ≤ l.most;
 }

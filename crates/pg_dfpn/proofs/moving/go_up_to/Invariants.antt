@@ -1,5 +1,5 @@
 use Rattle.std.proofs.Common.{◌≡◌, length}
-use Rattle.pg_dfpn.proofs.moving.go_up.Given as goal
+use Rattle.pg_dfpn.proofs.moving.go_up_to.Given as goal
 
 abbrev pub invariant-loop-board : goal.invariant-loop-board
 invariant-loop-board l = l.board.game ≡ l.fn.board.game
