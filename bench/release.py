@@ -217,7 +217,9 @@ def manual(_: pathlib.Path) -> list[str]:
     problems += differs(
         "calls of posgame-draw.1", synopsis("posgame-draw.1"), ["posgame-draw GAME [CERT [NODE]]"]
     )
-    settling = re.findall(r"^    (posgame-settle .*)$", text_of("docs/FORMATS.md"), re.MULTILINE)
+    called = r"^    (posgame-settle .*(?:\n {8,}\[.*)*)$"
+    found = re.findall(called, text_of("docs/FORMATS.md"), re.MULTILINE)
+    settling = [" ".join(it.split()) for it in found]
     problems += [] if settling else ["docs/FORMATS.md shows no call of posgame-settle"]
     problems += differs("calls of posgame-settle.1", synopsis("posgame-settle.1"), settling)
     blocks = re.findall(r"\.Bd -literal.*\n(posgame[^.]*)\.Ed\n", text_of("man/posgame.5"))
@@ -272,11 +274,12 @@ COMPLETIONS = (
     ("posgame-settle --nodes 50 wheel.game tippy-by", "tippy-by-its-corner.cert"),
     ("posgame-settle --entries = 9 wheel.game x.cert ", ""),
     ("posgame-settle wheel.game x.cert --", "--entries --help --images --json --nodes "
-     "--positions --version"),
+     "--positions --progress --version"),
     ("posgame-settle --positions ", ""),
     ("posgame-settle mo", "moves"),
     ("posgame-settle moves tippy-c", "tippy-corner.game"),
-    ("posgame-settle moves tippy-corner.game --", "--entries --json --nodes --positions"),
+    ("posgame-settle moves tippy-corner.game --", "--entries --json --nodes --positions "
+     "--progress"),
 )
 
 

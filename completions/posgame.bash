@@ -98,7 +98,8 @@ _posgame_settle() {
     elif [ -n "$pending" ]; then
         :
     elif [[ $current == -* ]]; then
-        _posgame_words '--positions --entries --nodes --images --json --help --version' "$current"
+        local options='--positions --entries --nodes --images --json --progress --help --version'
+        _posgame_words "$options" "$current"
     elif ((place < 2)); then
         local -a endings=(game cert)
         _posgame_files "${endings[place]}" "$current"
@@ -111,7 +112,7 @@ _posgame_moves() {
     if [ -n "$pending" ]; then
         :
     elif [[ $current == -* ]]; then
-        _posgame_words '--positions --entries --nodes --json' "$current"
+        _posgame_words '--positions --entries --nodes --json --progress' "$current"
     elif ((place == 1)); then
         _posgame_files game "$current"
     fi

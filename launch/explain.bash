@@ -53,11 +53,11 @@ read_draw_words() {
 read_settle_words() {
     COMMAND='' FAMILY='' GAME='' OTHER=''
     if [[ ${1-} == moves ]]; then
-        split_words ' --positions --entries --nodes ' ' --json ' "${@:2}" || return 0
+        split_words ' --positions --entries --nodes ' ' --json --progress ' "${@:2}" || return 0
         ((${#POSITIONALS[@]} == 1)) && COMMAND=moves GAME=${POSITIONALS[0]}
         return 0
     fi
-    split_words ' --positions --entries --nodes ' ' --images --json ' "$@" || return 0
+    split_words ' --positions --entries --nodes ' ' --images --json --progress ' "$@" || return 0
     ((${#POSITIONALS[@]} == 2)) || return 0
     COMMAND=settle GAME=${POSITIONALS[0]} OTHER=${POSITIONALS[1]}
 }

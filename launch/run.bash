@@ -74,6 +74,17 @@ load_texts() {
     . "$TEXTS/explain.bash"
 }
 
+# Sets `WORDS` to the words of posgame-settle: with --progress if standard error is a terminal.
+ask_for_progress() {
+    WORDS=("$@")
+    [[ -t 2 && " $* " != *' --progress '* ]] || return 0
+    if [[ ${1-} == moves ]]; then
+        WORDS=(moves --progress "${@:2}")
+    else
+        WORDS=(--progress "$@")
+    fi
+}
+
 # Runs the program with the words, says what went wrong, and ends as it did.
 run_program() {
     WRITTEN=()

@@ -12,11 +12,15 @@ use crate::table::Table;
 use pg_base::{MAX_MEMBERS, Memory};
 use pg_board::Board;
 use pg_game::Position;
+use pg_limits::{Progress, Watch};
 use pg_match::PairCache;
 use std::alloc::Global;
 
 /// How often a position may be looked at again for each that may be expanded.
 const VISITS: u64 = 256;
+
+/// The steps from one note of how far the search is to the next.
+pub(crate) const STEPS_A_NOTE: u64 = 16_384;
 
 /// What a search has found out.
 #[derive(Debug, Drop)]
@@ -189,15 +193,31 @@ fn go_on(board: &mut Board<'_>, survey: &Survey, frames: &mut Vec<Frame>) -> Res
     Ok(())
 }
 
+/// How far the search is.
+pub(crate) fn progress_of(asked: Asked<'_>, search: &Search) -> Progress {
+    let root = asked.signatures.at(&asked.game.start());
+    let (proof, disproof) = match search.table.find(&root) {
+        Some(numbers) => (numbers.proof, numbers.disproof),
+        None => (0, 0),
+    };
+    Progress::Searching {
+        expanded: search.expanded,
+        entries: search.table.len(),
+        proof,
+        disproof,
+    }
+}
+
 /// Searches on from the position of the board until its answer is known, the table is full, or so
 /// many positions are expanded. The board may stand below afterwards.
-pub(crate) fn descend(
+pub(crate) fn descend<W: Watch>(
     alloc: Global,
     asked: Asked<'_>,
     most: u32,
     board: &mut Board<'_>,
     cache: &mut PairCache,
     search: &mut Search,
+    watch: &mut W,
 ) -> Result<(), Memory>
     requires reads { IsRead asked.game.now asked.question board.old cache.old }
     requires few { search.old.expanded ≤ most }
@@ -209,9 +229,12 @@ pub(crate) fn descend(
 {
     let mut frames = Vec::new(alloc);
     frames.push(Frame::whole())?;
-    for _step in 0..VISITS * u64::from(most) {
+    for step in 0..VISITS * u64::from(most) {
         if frames.is_empty() || search.table.is_full() || search.expanded >= most {
             return Ok(());
+        }
+        if step % STEPS_A_NOTE == 0 {
+            watch.note(progress_of(asked, search));
         }
         let survey = visit(alloc, asked, board, cache, search)?;
         go_on(board, &survey, &mut frames)?;

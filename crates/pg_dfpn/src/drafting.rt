@@ -14,6 +14,7 @@ use pg_board::Board;
 use pg_cert::{Body, MAX_CLAIM_NODES, Node, Replies, Reply};
 use pg_game::{Game, Position};
 use pg_leaf::Key;
+use pg_limits::{Watch, note_nodes};
 use pg_match::PairCache;
 use std::alloc::Global;
 use std::collections::HashMap;
@@ -223,13 +224,14 @@ impl Draft {
     }
 
     /// Adds the nodes down to that of the position of the board, and tells whether all are there.
-    pub(crate) fn fill(
+    pub(crate) fn fill<W: Watch>(
         &mut self,
         alloc: Global,
         asked: Asked<'_>,
         board: &mut Board<'_>,
         cache: &mut PairCache,
         table: &Table,
+        watch: &mut W,
     ) -> Result<bool, Memory>
         requires reads { IsRead asked.game.now asked.question board.old cache.old }
         requires fit { AreFit self.old.nodes.items }
@@ -245,6 +247,7 @@ impl Draft {
             if !self.add(alloc, asked, board, cache, table)? {
                 return Ok(false);
             }
+            note_nodes(self.nodes.len(), watch);
             if board.plays() == 0 {
                 return Ok(true);
             }

@@ -4,7 +4,6 @@ ghost use Rattle.pg_dfpn.specs.Prelude.{Fits, lines_of};
 ghost use Rattle.pg_dfpn.specs.Asking.{IsRead};
 ghost use Rattle.pg_dfpn.specs.Drafted.{IsPlainBody};
 
-use crate::limits::Limits;
 use crate::numbers::{Numbers, first_numbers};
 use crate::signature::Signatures;
 use pg_base::{Kind, Memory, Pairs, Score, Side};
@@ -12,6 +11,7 @@ use pg_board::Board;
 use pg_cert::Body;
 use pg_game::{Game, defender};
 use pg_leaf::leaf;
+use pg_limits::Limits;
 use pg_match::PairCache;
 use pg_shared::shared_pairs;
 use std::alloc::Global;

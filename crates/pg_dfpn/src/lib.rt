@@ -5,7 +5,6 @@
 mod descent;
 mod drafting;
 mod judging;
-mod limits;
 mod moving;
 mod numbers;
 mod settling;
@@ -14,5 +13,4 @@ mod survey;
 mod table;
 mod widening;
 
-pub use limits::Limits;
 pub use settling::{Settled, Settling, settle};

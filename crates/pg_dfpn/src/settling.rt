@@ -8,7 +8,6 @@ ghost use Rattle.pg_dfpn.specs.Settled.{IsSettled};
 use crate::descent::{Search, descend, met};
 use crate::drafting::{Draft, claimer};
 use crate::judging::{Asked, total_at};
-use crate::limits::Limits;
 use crate::moving::go_up_to;
 use crate::signature::Signatures;
 use crate::table::Table;
@@ -17,6 +16,7 @@ use pg_base::{Goal, Kind, Memory, Score};
 use pg_board::Board;
 use pg_cert::{Claim, Nodes};
 use pg_game::Game;
+use pg_limits::{Limits, Watch};
 use pg_match::PairCache;
 use std::alloc::Global;
 
@@ -57,19 +57,20 @@ fn claimed_goal(kind: Kind, question: Score, answer: bool) -> Goal
 }
 
 /// The answer with its claim, where this has no more nodes than a claim may.
-fn claimed(
+fn claimed<W: Watch>(
     alloc: Global,
     asked: Asked<'_>,
     answer: bool,
     board: &mut Board<'_>,
     cache: &mut PairCache,
     table: &Table,
+    watch: &mut W,
 ) -> Result<Settled, Memory>
     requires reads { IsRead asked.game.now asked.question board.old cache.old }
     ensures { IfOk result (IsSettled asked.entry.game.now asked.entry.question) }
 {
     let mut draft = Draft::new(alloc, answer);
-    if !draft.fill(alloc, asked, board, cache, table)? {
+    if !draft.fill(alloc, asked, board, cache, table, watch)? {
         return Ok(Settled::Unknown);
     }
     let claim = Claim {
@@ -85,12 +86,13 @@ fn claimed(
 }
 
 /// Searches for the answer at the position of the board, at which no play stands.
-fn search_answer(
+fn search_answer<W: Watch>(
     alloc: Global,
     asked: Asked<'_>,
     board: &mut Board<'_>,
     cache: &mut PairCache,
     search: &mut Search,
+    watch: &mut W,
 ) -> Result<Option<bool>, Memory>
     requires reads { IsRead asked.game.now asked.question board.old cache.old }
     requires few { search.old.expanded ≤ asked.limits.positions }
@@ -102,7 +104,15 @@ fn search_answer(
     let key = asked.signatures.at(&board.position());
     let first = met(alloc, asked, board, cache, &mut search.table)?;
     if first.answer().is_none() {
-        descend(alloc, asked, asked.limits.positions, board, cache, search)?;
+        descend(
+            alloc,
+            asked,
+            asked.limits.positions,
+            board,
+            cache,
+            search,
+            watch,
+        )?;
         go_up_to(board, 0);
     }
     match search.table.find(&key) {
@@ -113,13 +123,14 @@ fn search_answer(
 
 /// Searches the claimer's other moves, so that the claim of the answer may be smaller; but not in
 /// Maker-Maker, where moves take long to judge.
-fn search_wider(
+fn search_wider<W: Watch>(
     alloc: Global,
     asked: Asked<'_>,
     answer: bool,
     board: &mut Board<'_>,
     cache: &mut PairCache,
     search: &mut Search,
+    watch: &mut W,
 ) -> Result<(), Memory>
     requires reads { IsRead asked.game.now asked.question board.old cache.old }
     requires few { search.old.expanded ≤ asked.limits.positions }
@@ -129,7 +140,7 @@ fn search_wider(
     ensures few { search.new.expanded ≤ asked.entry.limits.positions }
 {
     if asked.game.kind != Kind::MakerMaker {
-        widen(alloc, asked, claimer(answer), board, cache, search)?;
+        widen(alloc, asked, claimer(answer), board, cache, search, watch)?;
         go_up_to(board, 0);
     }
     Ok(())
@@ -137,12 +148,13 @@ fn search_wider(
 
 /// Searches from the position of the board, at which no play stands: for the answer, and then for a
 /// smaller claim.
-fn search_from(
+fn search_from<W: Watch>(
     alloc: Global,
     asked: Asked<'_>,
     board: &mut Board<'_>,
     cache: &mut PairCache,
     search: &mut Search,
+    watch: &mut W,
 ) -> Result<Option<bool>, Memory>
     requires reads { IsRead asked.game.now asked.question board.old cache.old }
     requires few { search.old.expanded ≤ asked.limits.positions }
@@ -151,19 +163,20 @@ fn search_from(
     ensures most { search.new.table.most ≡ search.old.table.most }
     ensures few { search.new.expanded ≤ asked.entry.limits.positions }
 {
-    let Some(answer) = search_answer(alloc, asked, board, cache, search)? else {
+    let Some(answer) = search_answer(alloc, asked, board, cache, search, watch)? else {
         return Ok(None);
     };
-    search_wider(alloc, asked, answer, board, cache, search)?;
+    search_wider(alloc, asked, answer, board, cache, search, watch)?;
     Ok(Some(answer))
 }
 
 /// The answer at the position of the board, at which no play stands.
-fn settle_on(
+fn settle_on<W: Watch>(
     alloc: Global,
     asked: Asked<'_>,
     board: &mut Board<'_>,
     cache: &mut PairCache,
+    watch: &mut W,
 ) -> Result<Settling, Memory>
     requires reads { IsRead asked.game.now asked.question board.old cache.old }
     ensures answer { IfOk result
@@ -175,8 +188,8 @@ fn settle_on(
         table: Table::new(alloc, asked.limits.entries),
         expanded: 0,
     };
-    let answer = match search_from(alloc, asked, board, cache, &mut search)? {
-        Some(answer) => claimed(alloc, asked, answer, board, cache, &search.table)?,
+    let answer = match search_from(alloc, asked, board, cache, &mut search, watch)? {
+        Some(answer) => claimed(alloc, asked, answer, board, cache, &search.table, watch)?,
         None => Settled::Unknown,
     };
     Ok(Settling {
@@ -187,12 +200,13 @@ fn settle_on(
 }
 
 /// The answer at the game's position, by the signatures of the game.
-fn settle_with(
+fn settle_with<W: Watch>(
     alloc: Global,
     g: &Game,
     question: Score,
     limits: Limits,
     signatures: &Signatures,
+    watch: &mut W,
 ) -> Result<Settling, Memory>
     requires question { IsQuestion g.now.kind question }
     requires lines { g.now.kind ≢ Switching }
@@ -209,7 +223,7 @@ fn settle_with(
         signatures,
         total: total_at(&board),
     };
-    settle_on(alloc, asked, &mut board, &mut cache)
+    settle_on(alloc, asked, &mut board, &mut cache, watch)
 }
 
 /// Whether X reaches the score from the game's position, with a claim that is to show it; or that
@@ -227,12 +241,18 @@ fn settle_with(
 /// or else the one whose tree is least; and a position once.
 ///
 /// A claim is within the limits of version 1 of the format, so the checker may be asked. That it is
-/// valid no clause says.
+/// valid no clause says. `watch` is told now and then how far the search is.
 ///
 /// # Errors
 ///
 /// `Memory` where no memory is found.
-pub fn settle(alloc: Global, g: &Game, question: Score, limits: Limits) -> Result<Settling, Memory>
+pub fn settle<W: Watch>(
+    alloc: Global,
+    g: &Game,
+    question: Score,
+    limits: Limits,
+    watch: &mut W,
+) -> Result<Settling, Memory>
     requires question { IsQuestion g.now.kind question }
     requires lines { g.now.kind ≢ Switching }
     ensures answer { IfOk result (λ found. IsSettled g.now question found.answer) }
@@ -240,5 +260,5 @@ pub fn settle(alloc: Global, g: &Game, question: Score, limits: Limits) -> Resul
     ensures entries { IfOk result (λ found. found.entries ≤ limits.entries) }
 {
     let signatures = Signatures::of_game(alloc, g)?;
-    settle_with(alloc, g, question, limits, &signatures)
+    settle_with(alloc, g, question, limits, &signatures, watch)
 }

@@ -2,19 +2,31 @@
 
 use pg_base::{Kind, Memory};
 use pg_game::{Game, Position};
+use pg_leaf::Key;
 use pg_maps::fitting_maps;
 use pg_patterns::{Arena, SmallSet};
 use std::alloc::Global;
 
-/// What still matters of a position of one game: positions with the same signature are worth the
-/// same.
+/// The most points of a game whose positions are reduced.
+const MOST_POINTS: u16 = 256;
+
+/// What a position of one game is known by: positions with the same signature are worth the same.
+#[derive(Clone, Copy, Debug, PartialEq, Eq, Hash)]
+pub(crate) enum Signature {
+    /// What still matters of it, in a game with at most 256 points.
+    Reduced(Reduced),
+    /// The position itself, in a larger game.
+    Whole(Key),
+}
+
+/// What still matters of a position.
 ///
 /// A line is *dead* for a side if the other side has a point of it. A point is dead if each line
 /// through it is dead for X, in Maker-Maker for both sides. Whose a dead point is doesn't matter.
 /// The number of free points does: it tells whose turn it is, and who moves last. Of the positions
 /// that the maps of the board make of one another, one stands for all.
 #[derive(Clone, Copy, Debug, PartialEq, Eq, Hash)]
-pub(crate) struct Signature {
+pub(crate) struct Reduced {
     /// X's points and the dead ones.
     x: SmallSet,
     /// Y's points and the dead ones.
@@ -30,6 +42,8 @@ pub(crate) struct Signatures {
     kind: Kind,
     /// How many maps of the board fit the game.
     maps: u8,
+    /// Whether it has too many points for a `Reduced`.
+    is_large: bool,
 }
 
 /// Tests whether the first set has the least point that is in one of the sets alone.
@@ -41,9 +55,9 @@ fn comes_first(one: SmallSet, other: SmallSet) -> bool {
     }
 }
 
-impl Signature {
+impl Reduced {
     /// Tests whether it comes before the other one.
-    fn is_before(&self, other: &Signature) -> bool {
+    fn is_before(&self, other: &Reduced) -> bool {
         if self.x == other.x {
             comes_first(self.y, other.y)
         } else {
@@ -61,6 +75,7 @@ impl Signatures {
             arena,
             kind: g.kind,
             maps: maps.len().min(8) as u8,
+            is_large: g.points() > MOST_POINTS,
         })
     }
 
@@ -76,19 +91,19 @@ impl Signatures {
     }
 
     /// The image under a map of the board.
-    fn image(&self, map: u8, signature: &Signature) -> Signature {
-        Signature {
-            x: self.arena.maps.image_of_set(map, signature.x),
-            y: self.arena.maps.image_of_set(map, signature.y),
-            free: signature.free,
+    fn image(&self, map: u8, reduced: &Reduced) -> Reduced {
+        Reduced {
+            x: self.arena.maps.image_of_set(map, reduced.x),
+            y: self.arena.maps.image_of_set(map, reduced.y),
+            free: reduced.free,
         }
     }
 
     /// The image that comes first.
-    fn first_image(&self, signature: Signature) -> Signature {
-        let mut first = signature;
+    fn first_image(&self, reduced: Reduced) -> Reduced {
+        let mut first = reduced;
         for map in 1..self.maps {
-            let image = self.image(map, &signature);
+            let image = self.image(map, &reduced);
             if image.is_before(&first) {
                 first = image;
             }
@@ -96,14 +111,22 @@ impl Signatures {
         first
     }
 
-    /// The signature of a position.
-    pub(crate) fn at(&self, p: &Position) -> Signature {
+    /// What still matters of a position.
+    fn reduced(&self, p: &Position) -> Reduced {
         let (x, y) = (SmallSet::from_points(&p.x), SmallSet::from_points(&p.y));
         let dead = self.dead(x, y);
-        self.first_image(Signature {
+        self.first_image(Reduced {
             x: x.union(dead),
             y: y.union(dead),
             free: self.arena.points.without(x).without(y).len(),
         })
+    }
+
+    /// The signature of a position.
+    pub(crate) fn at(&self, p: &Position) -> Signature {
+        if self.is_large {
+            return Signature::Whole(Key::of(p));
+        }
+        Signature::Reduced(self.reduced(p))
     }
 }

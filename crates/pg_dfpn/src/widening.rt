@@ -3,13 +3,14 @@ ghost use Rattle.std.specs.Prelude.{◌≡◌, ◌≤◌};
 ghost use Rattle.pg_dfpn.specs.Prelude.{Fits, lines_of};
 ghost use Rattle.pg_dfpn.specs.Asking.{IsRead};
 
-use crate::descent::{Search, descend, met, survey_at};
+use crate::descent::{STEPS_A_NOTE, Search, descend, met, progress_of, survey_at};
 use crate::judging::Asked;
 use crate::moving::{go_up_to, play_free, undo_last};
 use crate::numbers::State;
 use crate::table::Table;
 use pg_base::{Memory, Side};
 use pg_board::Board;
+use pg_limits::{Unwatched, Watch};
 use pg_match::PairCache;
 use std::alloc::Global;
 
@@ -61,7 +62,7 @@ fn try_move(
         .expanded
         .saturating_add(MOVE_POSITIONS)
         .min(asked.limits.positions);
-    descend(alloc, asked, most, board, cache, search)?;
+    descend(alloc, asked, most, board, cache, search, &mut Unwatched)?;
     go_up_to(board, plays);
     Ok(())
 }
@@ -144,13 +145,14 @@ fn step(
 
 /// Searches the claimer's moves at the position of the board, at which it wins, and at all those
 /// below at which it does, each move for a short while.
-pub(crate) fn widen(
+pub(crate) fn widen<W: Watch>(
     alloc: Global,
     asked: Asked<'_>,
     claimer: Side,
     board: &mut Board<'_>,
     cache: &mut PairCache,
     search: &mut Search,
+    watch: &mut W,
 ) -> Result<(), Memory>
     requires reads { IsRead asked.game.now asked.question board.old cache.old }
     requires few { search.old.expanded ≤ asked.limits.positions }
@@ -164,9 +166,12 @@ pub(crate) fn widen(
     }
     let mut next = Vec::new(alloc);
     next.push(0)?;
-    for _step in 0..ENTRY_STEPS * u64::from(asked.limits.entries) {
+    for look in 0..ENTRY_STEPS * u64::from(asked.limits.entries) {
         if next.is_empty() {
             return Ok(());
+        }
+        if look % STEPS_A_NOTE == 0 {
+            watch.note(progress_of(asked, search));
         }
         step(alloc, asked, claimer, board, cache, search, &mut next)?;
     }

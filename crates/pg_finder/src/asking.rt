@@ -8,11 +8,12 @@ ghost use Rattle.pg_finder.specs.Claims.{IsAnswered};
 ghost use Rattle.pg_finder.specs.Findings.{IsFound};
 
 use crate::bringing::{found_by_one, found_by_two};
-use crate::searching::{Answer, limits_after, search};
+use crate::searching::{Answer, limits_of, search};
 use pg_base::{Kind, Memory, Score};
 use pg_cert::{Claim, Version};
 use pg_dfpn::{Settled, settle};
 use pg_game::Game;
+use pg_limits::Watch;
 use pg_settle::{Budget, Finder, Finding, Outcome};
 use std::alloc::Global;
 
@@ -21,7 +22,10 @@ use std::alloc::Global;
 /// wins, and in Maker-Maker, if X doesn't, whether X at least draws. Of a switching game nothing is
 /// asked.
 #[derive(Clone, Copy, Debug)]
-pub struct ProofNumbers;
+pub struct ProofNumbers<W> {
+    /// Who is told how far a search is.
+    pub watch: W,
+}
 
 /// The certificate of an answer.
 fn finding_of(alloc: Global, game: &Game, budget: Budget, answer: Answer) -> Result<Finding, Memory>
@@ -41,14 +45,19 @@ fn finding_of(alloc: Global, game: &Game, budget: Budget, answer: Answer) -> Res
 }
 
 /// Asks whether X wins a game without draws.
-fn ask_once(alloc: Global, game: &Game, budget: Budget) -> Result<Outcome, Memory>
+fn ask_once<W: Watch>(
+    alloc: Global,
+    game: &Game,
+    budget: Budget,
+    watch: &mut W,
+) -> Result<Outcome, Memory>
     requires lines { game.now.kind ≢ Switching }
     requires drawless { game.now.kind ≢ MakerMaker }
     ensures writable { IfOk result (λ outcome. IsWritable outcome.finding) }
     ensures found { IfOk result (λ outcome. IsFound game.now budget outcome.finding) }
     ensures few { IfOk result (λ outcome. outcome.expanded ≤ budget.positions) }
 {
-    let found = search(alloc, game, budget)?;
+    let found = search(alloc, game, budget, watch)?;
     let expanded = found.expanded;
     let finding = finding_of(alloc, game, budget, found.answer)?;
     Ok(Outcome { finding, expanded })
@@ -79,12 +88,13 @@ fn drawn(
 
 /// Asks whether X at least draws in Maker-Maker, where Y's claim denies X the win and `before`
 /// positions were expanded for that.
-fn ask_again(
+fn ask_again<W: Watch>(
     alloc: Global,
     game: &Game,
     budget: Budget,
     denial: Claim,
     before: u32,
+    watch: &mut W,
 ) -> Result<Outcome, Memory>
     requires kind { game.now.kind ≡ MakerMaker }
     requires denial { IsClaimFor game.now XWins false denial }
@@ -93,27 +103,33 @@ fn ask_again(
     ensures found { IfOk result (λ outcome. IsFound game.now budget outcome.finding) }
     ensures few { IfOk result (λ outcome. outcome.expanded ≤ budget.positions) }
 {
-    let found = settle(alloc, game, Score::Draw, limits_after(budget, before))?;
+    let limits = limits_of(budget).after(before);
+    let found = settle(alloc, game, Score::Draw, limits, watch)?;
     let expanded = before + found.expanded;
     let finding = drawn(alloc, game, budget, denial, found.answer)?;
     Ok(Outcome { finding, expanded })
 }
 
 /// Asks whether X wins in Maker-Maker, and if not, whether X at least draws.
-fn ask_twice(alloc: Global, game: &Game, budget: Budget) -> Result<Outcome, Memory>
+fn ask_twice<W: Watch>(
+    alloc: Global,
+    game: &Game,
+    budget: Budget,
+    watch: &mut W,
+) -> Result<Outcome, Memory>
     requires { game.now.kind ≡ MakerMaker }
     ensures writable { IfOk result (λ outcome. IsWritable outcome.finding) }
     ensures found { IfOk result (λ outcome. IsFound game.now budget outcome.finding) }
     ensures few { IfOk result (λ outcome. outcome.expanded ≤ budget.positions) }
 {
-    let found = settle(alloc, game, Score::XWins, limits_after(budget, 0))?;
+    let found = settle(alloc, game, Score::XWins, limits_of(budget), watch)?;
     let expanded = found.expanded;
     match found.answer {
         Settled::Yes(claim) => {
             let finding = found_by_one(alloc, game, budget, Score::XWins, Version::One, claim)?;
             Ok(Outcome { finding, expanded })
         }
-        Settled::No(denial) => ask_again(alloc, game, budget, denial, expanded),
+        Settled::No(denial) => ask_again(alloc, game, budget, denial, expanded, watch),
         Settled::Unknown => Ok(Outcome {
             finding: Finding::Open,
             expanded,
@@ -121,7 +137,7 @@ fn ask_twice(alloc: Global, game: &Game, budget: Budget) -> Result<Outcome, Memo
     }
 }
 
-impl Finder for ProofNumbers {
+impl<W: Watch> Finder for ProofNumbers<W> {
     ghost brings = { λ _ game budget outcome. IsFound game budget outcome.finding };
 
     fn find(&mut self, alloc: Global, game: &Game, budget: Budget) -> Result<Outcome, Memory> {
@@ -130,8 +146,8 @@ impl Finder for ProofNumbers {
                 finding: Finding::Open,
                 expanded: 0,
             }),
-            Kind::MakerMaker => ask_twice(alloc, game, budget),
-            _ => ask_once(alloc, game, budget),
+            Kind::MakerMaker => ask_twice(alloc, game, budget, &mut self.watch),
+            _ => ask_once(alloc, game, budget, &mut self.watch),
         }
     }
 }

@@ -1,5 +1,5 @@
 //! The searches that the finder asks.
-ghost use Rattle.std.specs.Prelude.{◌≡◌, ◌≢◌, ◌≤◌, ◌+◌, IfOk};
+ghost use Rattle.std.specs.Prelude.{◌≡◌, ◌≢◌, ◌≤◌, IfOk};
 ghost use Rattle.std.specs.List.{list_all};
 ghost use Rattle.pg_base.specs.declared.kind.Kind.TheVariants.{MakerBreaker, MakerMaker, Switching};
 ghost use Rattle.pg_base.specs.declared.score.Score.TheVariants.{XWins};
@@ -12,8 +12,9 @@ ghost use Rattle.pg_finder.specs.Claims.{IsAnswered, least_version};
 
 use pg_base::{Kind, Memory, Score};
 use pg_cert::{Body, Claim, Node, Version};
-use pg_dfpn::{Limits, Settled};
+use pg_dfpn::Settled;
 use pg_game::Game;
+use pg_limits::{Limits, Watch};
 use pg_settle::Budget;
 use std::alloc::Global;
 
@@ -43,16 +44,15 @@ pub(crate) struct Searched {
     pub(crate) expanded: u32,
 }
 
-/// What a search may use after `before` positions were expanded.
-pub(crate) fn limits_after(budget: Budget, before: u32) -> Limits
-    requires { before ≤ budget.positions }
-    ensures positions { result.positions + before ≡ budget.positions }
+/// What a search may use by the budget.
+pub(crate) fn limits_of(budget: Budget) -> Limits
+    ensures positions { result.positions ≡ budget.positions }
     ensures entries { result.entries ≡ budget.entries }
     ensures first_steps { result.first_steps ≡ FIRST_STEPS }
     ensures steps { result.steps ≡ STEPS }
 {
     Limits {
-        positions: budget.positions - before,
+        positions: budget.positions,
         entries: budget.entries,
         first_steps: FIRST_STEPS,
         steps: STEPS,
@@ -109,13 +109,18 @@ fn answer_by_patterns(settled: Settled) -> Answer
 }
 
 /// Searches for whether X wins a game without draws, by proof numbers of positions.
-fn search_positions(alloc: Global, game: &Game, budget: Budget) -> Result<Searched, Memory>
+fn search_positions<W: Watch>(
+    alloc: Global,
+    game: &Game,
+    budget: Budget,
+    watch: &mut W,
+) -> Result<Searched, Memory>
     requires lines { game.now.kind ≢ Switching }
     requires drawless { game.now.kind ≢ MakerMaker }
     ensures answer { IfOk result (λ found. IsAnswered game.now found.answer) }
     ensures few { IfOk result (λ found. found.expanded ≤ budget.positions) }
 {
-    let found = pg_dfpn::settle(alloc, game, Score::XWins, limits_after(budget, 0))?;
+    let found = pg_dfpn::settle(alloc, game, Score::XWins, limits_of(budget), watch)?;
     let answer = answer_of(found.answer);
     Ok(Searched {
         answer,
@@ -124,13 +129,18 @@ fn search_positions(alloc: Global, game: &Game, budget: Budget) -> Result<Search
 }
 
 /// Searches for whether Maker wins by patterns, where each side claims one point a turn.
-fn search_patterns(alloc: Global, game: &Game, budget: Budget) -> Result<Searched, Memory>
+fn search_patterns<W: Watch>(
+    alloc: Global,
+    game: &Game,
+    budget: Budget,
+    watch: &mut W,
+) -> Result<Searched, Memory>
     requires kind { game.now.kind ≡ MakerBreaker }
     requires single { game.now.bias ≡ 1 }
     ensures answer { IfOk result (λ found. IsAnswered game.now found.answer) }
     ensures few { IfOk result (λ found. found.expanded ≤ budget.positions) }
 {
-    let found = pg_zone_proofs::settle(alloc, game, limits_after(budget, 0))?;
+    let found = pg_zone_proofs::settle(alloc, game, limits_of(budget), watch)?;
     let answer = answer_by_patterns(found.answer);
     Ok(Searched {
         answer,
@@ -139,17 +149,22 @@ fn search_patterns(alloc: Global, game: &Game, budget: Budget) -> Result<Searche
 }
 
 /// Searches for whether X wins a game without draws.
-pub(crate) fn search(alloc: Global, game: &Game, budget: Budget) -> Result<Searched, Memory>
+pub(crate) fn search<W: Watch>(
+    alloc: Global,
+    game: &Game,
+    budget: Budget,
+    watch: &mut W,
+) -> Result<Searched, Memory>
     requires lines { game.now.kind ≢ Switching }
     requires drawless { game.now.kind ≢ MakerMaker }
     ensures answer { IfOk result (λ found. IsAnswered game.now found.answer) }
     ensures few { IfOk result (λ found. found.expanded ≤ budget.positions) }
 {
     if game.bias != 1 {
-        return search_positions(alloc, game, budget);
+        return search_positions(alloc, game, budget, watch);
     }
     match game.kind {
-        Kind::MakerBreaker => search_patterns(alloc, game, budget),
-        _ => search_positions(alloc, game, budget),
+        Kind::MakerBreaker => search_patterns(alloc, game, budget, watch),
+        _ => search_positions(alloc, game, budget, watch),
     }
 }

@@ -11,7 +11,7 @@ use Rattle.pg_patterns.specs.declared.known.Entry.TheVariants as entries
 use Rattle.pg_patterns.specs.declared.known.Glimpse.{Glimpse}
 use Rattle.pg_patterns.specs.declared.known.Glimpse.TheVariants as glimpses
 use Rattle.pg_patterns.specs.declared.known.Known.{Known}
-use Rattle.pg_patterns.specs.declared.limits.Limits.{Limits}
+use Rattle.pg_limits.specs.declared.limits.Limits.{Limits}
 use Rattle.pg_patterns.specs.declared.pattern.Pattern.{Pattern}
 use Rattle.pg_patterns.specs.declared.spot.Spot.{Spot}
 

@@ -3,13 +3,13 @@ ghost use Rattle.std.specs.Prelude.{◌+◌, ◌≤◌, vec_len};
 ghost use Rattle.std.specs.HashMap.{hash_map_len};
 
 use crate::arena::Arena;
-use crate::limits::Limits;
 use crate::numbers::Numbers;
 use crate::pattern::{Image, Pattern};
 use crate::small_set::SmallSet;
 use crate::spot::Spot;
 use crate::trie::Trie;
 use pg_base::{Memory, Side};
+use pg_limits::Limits;
 use std::alloc::Global;
 use std::collections::HashMap;
 

@@ -4,7 +4,6 @@
 
 mod arena;
 mod known;
-mod limits;
 mod maps;
 mod numbers;
 mod pattern;
@@ -16,7 +15,6 @@ mod weights;
 
 pub use arena::Arena;
 pub use known::{Entry, Glimpse, Known, Undecided};
-pub use limits::Limits;
 pub use maps::Maps;
 pub use numbers::Numbers;
 pub use pattern::{Image, Pattern, Reason};

@@ -10,6 +10,7 @@ use crate::standing::is_over;
 use crate::uses::{Uses, answer_to, spot_of, under};
 use pg_base::{MAX_MEMBERS, Memory, PointSet};
 use pg_cert::{Body, MAX_CLAIM_NODES, Node, Replies};
+use pg_limits::{Watch, note_nodes};
 use pg_patterns::{Image, Pattern, Reason, Spot};
 use pg_zones::Found;
 use std::alloc::Global;
@@ -279,7 +280,12 @@ impl<'a> Draft<'a> {
     }
 
     /// Adds all nodes, the last at the game's own position. Returns false if it is stuck.
-    fn fill(&mut self, alloc: Global, root: Image) -> Result<bool, Memory>
+    fn fill<W: Watch>(
+        &mut self,
+        alloc: Global,
+        root: Image,
+        watch: &mut W,
+    ) -> Result<bool, Memory>
         requires { AreFit self.old.nodes.items }
         ensures { AreFit self.new.nodes.items }
     {
@@ -292,6 +298,7 @@ impl<'a> Draft<'a> {
             if !self.step(alloc, &mut tasks)? {
                 return Ok(false);
             }
+            note_nodes(self.nodes.len(), watch);
         }
         Ok(false)
     }
@@ -303,17 +310,18 @@ impl<'a> Draft<'a> {
 /// # Errors
 ///
 /// `Memory` if an allocation fails.
-pub(crate) fn nodes_of(
+pub(crate) fn nodes_of<W: Watch>(
     alloc: Global,
     found: &Found,
     pattern: u32,
+    watch: &mut W,
 ) -> Result<Option<Vec<Node>>, Memory>
     ensures { IfOk result (λ r. IfSome r
         (λ nodes. AreFit nodes.items × (0 < length nodes.items))) }
 {
     let root = Image { pattern, map: 0 };
     let mut draft = Draft::new(alloc, found, root)?;
-    if !draft.fill(alloc, root)? || draft.nodes.is_empty() {
+    if !draft.fill(alloc, root, watch)? || draft.nodes.is_empty() {
         return Ok(None);
     }
     let Draft {

@@ -6,21 +6,27 @@ ghost use Rattle.pg_zone_proofs.specs.Settled.{IsSettled};
 use crate::drafting::nodes_of;
 use pg_base::{Goal, Memory, Side};
 use pg_cert::{Claim, Nodes};
-use pg_dfpn::{Limits, Settled, Settling};
+use pg_dfpn::{Settled, Settling};
 use pg_game::Game;
-use pg_patterns::Limits as SearchLimits;
+use pg_limits::{Limits, Watch};
 use pg_zones::{Found, search};
 use std::alloc::Global;
 
 /// Returns the answer that the pattern shows, with its claim; unknown if the claim has too many
 /// nodes.
-fn claimed(alloc: Global, g: &Game, found: &Found, pattern: u32) -> Result<Settled, Memory>
+fn claimed<W: Watch>(
+    alloc: Global,
+    g: &Game,
+    found: &Found,
+    pattern: u32,
+    watch: &mut W,
+) -> Result<Settled, Memory>
     ensures { IfOk result (IsSettled g.now) }
 {
     let Some(side) = found.known.claimer(pattern) else {
         return Ok(Settled::Unknown);
     };
-    let Some(nodes) = nodes_of(alloc, found, pattern)? else {
+    let Some(nodes) = nodes_of(alloc, found, pattern, watch)? else {
         return Ok(Settled::Unknown);
     };
     let claim = Claim {
@@ -35,19 +41,6 @@ fn claimed(alloc: Global, g: &Game, found: &Found, pattern: u32) -> Result<Settl
     }
 }
 
-/// Returns the limits as the search takes them.
-fn searched(limits: &Limits) -> SearchLimits
-    ensures positions { result.positions ≡ limits.now.positions }
-    ensures entries { result.entries ≡ limits.now.entries }
-{
-    SearchLimits {
-        positions: limits.positions,
-        entries: limits.entries,
-        first_steps: limits.first_steps,
-        steps: limits.steps,
-    }
-}
-
 /// Returns whether Maker, who is X, wins from the game's position if each side claims one point a
 /// turn, with a claim that is to show it; or unknown if the limits don't suffice.
 ///
@@ -57,21 +50,26 @@ fn searched(limits: &Limits) -> SearchLimits
 /// reason.
 ///
 /// A claim is within the limits of version 2 of the format, so the checker can judge it. No clause
-/// says that it is valid.
+/// says that it is valid. `watch` is told now and then how far the search is.
 ///
 /// # Errors
 ///
 /// `Memory` if an allocation fails.
-pub fn settle(alloc: Global, g: &Game, limits: Limits) -> Result<Settling, Memory>
+pub fn settle<W: Watch>(
+    alloc: Global,
+    g: &Game,
+    limits: Limits,
+    watch: &mut W,
+) -> Result<Settling, Memory>
     requires kind { g.now.kind ≡ MakerBreaker }
     requires single { g.now.bias ≡ 1 }
     ensures answer { IfOk result (λ settling. IsSettled g.now settling.answer) }
     ensures expanded { IfOk result (λ settling. settling.expanded ≤ limits.positions) }
     ensures entries { IfOk result (λ settling. settling.entries ≤ limits.entries) }
 {
-    let found = search(alloc, g, searched(&limits))?;
+    let found = search(alloc, g, limits, watch)?;
     let answer = match found.root {
-        Some(pattern) => claimed(alloc, g, &found, pattern)?,
+        Some(pattern) => claimed(alloc, g, &found, pattern, watch)?,
         None => Settled::Unknown,
     };
     Ok(Settling {

@@ -5,19 +5,23 @@ ghost use Rattle.pg_patterns.specs.Known.{limits_of};
 use crate::averages::Averages;
 use crate::expanding::Expanded;
 use crate::finder::{Finder, Manner};
-use crate::numbers::INFINITE;
+use crate::numbers::{INFINITE, of_answers};
 use crate::survey::{Frame, Survey};
 use crate::trials::Trials;
 use pg_base::Memory;
 use pg_game::Game;
+use pg_limits::{Limits, Progress, Watch};
 use pg_patterns::{
-    Arena, Entry, Glimpse, Known, Limits, Numbers, Spot, Undecided, heaviest_first, total_weight,
+    Arena, Entry, Glimpse, Known, Numbers, Spot, Undecided, heaviest_first, total_weight,
     weigh,
 };
 use std::alloc::Global;
 
 /// The most looks at positions for each position that may be expanded.
 const VISITS: u64 = 256;
+
+/// The looks from one note of how far the search is to the next.
+const LOOKS_A_NOTE: u64 = 2_048;
 
 /// The number of positions that the first round expands; each later one expands twice as many as
 /// the one before.
@@ -170,8 +174,22 @@ impl Finder {
         }
     }
 
+    /// Returns how far the search is, with the numbers of the first frame.
+    fn progress(&self, frames: &[Frame]) -> Progress {
+        let (proof, disproof) = match frames.first() {
+            Some(frame) => of_answers(frame.going.numbers, frame.spot.turn),
+            None => (0, 0),
+        };
+        Progress::Searching {
+            expanded: self.known.expanded(),
+            entries: self.known.entries(),
+            proof,
+            disproof,
+        }
+    }
+
     /// Searches from the game's own position until it is decided, or as much is used as may be.
-    fn descend(&mut self, alloc: Global) -> Result<Option<u32>, Memory>
+    fn descend<W: Watch>(&mut self, alloc: Global, watch: &mut W) -> Result<Option<u32>, Memory>
         ensures { limits_of self.new.known ≡ limits_of self.old.known }
     {
         let start = self.arena.start;
@@ -181,9 +199,12 @@ impl Finder {
         };
         let mut frames = Vec::new(alloc);
         self.enter(alloc, &start, whole, &mut frames)?;
-        for _step in 0..VISITS * u64::from(self.known.limits().positions) {
+        for step in 0..VISITS * u64::from(self.known.limits().positions) {
             if frames.is_empty() || self.is_spent() || self.is_round_over() {
                 break;
+            }
+            if step % LOOKS_A_NOTE == 0 {
+                watch.note(self.progress(frames.as_slice()));
             }
             self.step(alloc, &mut frames)?;
         }
@@ -204,14 +225,18 @@ impl Finder {
 
     /// Searches in rounds, each from the game's own position, with moves judged late and early in
     /// turn. Patterns stay from one round to the next.
-    fn search_in_rounds(&mut self, alloc: Global) -> Result<Option<u32>, Memory>
+    fn search_in_rounds<W: Watch>(
+        &mut self,
+        alloc: Global,
+        watch: &mut W,
+    ) -> Result<Option<u32>, Memory>
         ensures { limits_of self.new.known ≡ limits_of self.old.known }
     {
         let mut budget = FIRST_ROUND;
         let mut manner = Manner::Late;
         for _round in 0..ROUNDS {
             self.begin_round(alloc, budget, manner);
-            let root = self.descend(alloc)?;
+            let root = self.descend(alloc, watch)?;
             if root.is_some() || self.is_spent() {
                 return Ok(root);
             }
@@ -238,12 +263,17 @@ impl Finder {
 /// AND/OR Trees and Its Applications, 2002) over a table of exact positions, of which each that is
 /// decided leaves a pattern: what its winner needs. A position is decided if a pattern fits. Rounds
 /// judge moves late and early in turn: the one serves more often where Maker wins, the other where
-/// Breaker does.
+/// Breaker does. `watch` is told now and then how far the search is.
 ///
 /// # Errors
 ///
 /// `Memory` if an allocation fails.
-pub fn search(alloc: Global, g: &Game, limits: Limits) -> Result<Found, Memory>
+pub fn search<W: Watch>(
+    alloc: Global,
+    g: &Game,
+    limits: Limits,
+    watch: &mut W,
+) -> Result<Found, Memory>
     ensures { IfOk result (λ found. limits_of found.known ≡ limits) }
 {
     let arena = Arena::of_game(alloc, g)?;
@@ -258,7 +288,7 @@ pub fn search(alloc: Global, g: &Game, limits: Limits) -> Result<Found, Memory>
         manner: Manner::Late,
         round_end: 0,
     };
-    let root = finder.search_in_rounds(alloc)?;
+    let root = finder.search_in_rounds(alloc, watch)?;
     let Finder {
         arena,
         known,

@@ -10,6 +10,14 @@ pub(crate) const INFINITE: u32 = 1 << 30;
 /// The greatest first number.
 const MOST_FIRST: u32 = 4_000;
 
+/// Returns the numbers of yes, that X wins, and of no, if the side is to move.
+pub(crate) fn of_answers(numbers: Numbers, turn: Side) -> (u32, u32) {
+    match turn {
+        Side::X => (numbers.mover, numbers.waiter),
+        Side::Y => (numbers.waiter, numbers.mover),
+    }
+}
+
 /// Returns the logarithm of a number to the base 2, rounded down; 0 for 0.
 fn logarithm(n: u128) -> u32
     ensures { result ≤ 127 }

@@ -30,6 +30,8 @@ pub(crate) struct Asked<'a> {
     pub(crate) images: bool,
     /// Whether the result is printed as JSON.
     pub(crate) json: bool,
+    /// Whether standard error is to show how far the search is.
+    pub(crate) progress: bool,
     /// Whether the values after the moves are asked for, and no certificate.
     pub(crate) moves: bool,
 }
@@ -44,7 +46,7 @@ fn number<'a>(alloc: Global, name: &'a str, most: u32, help: &'a str) -> Arg<'a>
         .help(help)
 }
 
-/// Adds the argument GAME, the options that bound the search, and that for JSON.
+/// Adds the argument GAME, the options that bound the search, and those for JSON and progress.
 fn with_game<'a>(alloc: Global, command: Command<'a>) -> Result<Command<'a>, Error> {
     let game = Arg::new(alloc, "GAME")
         .required(true)
@@ -53,9 +55,14 @@ fn with_game<'a>(alloc: Global, command: Command<'a>) -> Result<Command<'a>, Err
         .long("json")
         .action(ArgAction::SetTrue)
         .help("Print one line of JSON");
+    let progress = Arg::new(alloc, "progress")
+        .long("progress")
+        .action(ArgAction::SetTrue)
+        .help("Show on standard error how far the search is");
     let command = command
         .arg(game)?
         .arg(json)?
+        .arg(progress)?
         .arg(number(
             alloc,
             "positions",
@@ -119,6 +126,7 @@ pub(crate) fn read_words<'a>(alloc: Global, words: &'a [String]) -> Result<Asked
         nodes: given.get_one::<u32>("nodes"),
         images: found.get_flag("images"),
         json: given.get_flag("json"),
+        progress: given.get_flag("progress"),
         moves: moves.is_some(),
     })
 }

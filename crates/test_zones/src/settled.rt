@@ -5,8 +5,9 @@ ghost use Rattle.pg_cert.specs.declared.cert.Version.TheVariants.{Two};
 use pg_base::{Kind, Memory};
 use pg_cert::{Cert, Claim, Claims, Version};
 use pg_check::check;
-use pg_dfpn::{Limits, Settled};
+use pg_dfpn::Settled;
 use pg_game::Game;
+use pg_limits::{Limits, Unwatched};
 use pg_plain::{game, part};
 use pg_zone_proofs::settle;
 use std::alloc::Global;
@@ -36,7 +37,7 @@ fn told(alloc: Global, g: &Game) -> Result<&'static str, Memory> {
         first_steps: 1_000,
         steps: 60,
     };
-    match settle(alloc, g, limits)?.answer {
+    match settle(alloc, g, limits, &mut Unwatched)?.answer {
         Settled::Yes(claim) => Ok(if is_valid(alloc, g, claim)? {
             "yes"
         } else {

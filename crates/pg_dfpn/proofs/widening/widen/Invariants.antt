@@ -2,8 +2,8 @@ use Rattle.std.proofs.Common.{◌≡◌, ◌≤◌}
 use Rattle.pg_dfpn.specs.Prelude.{Fits, lines_of}
 use Rattle.pg_dfpn.proofs.widening.widen.Given as goal
 
-abbrev pub invariant-loop-step : goal.invariant-loop-step
-invariant-loop-step l = record {
+abbrev pub invariant-loop-look : goal.invariant-loop-look
+invariant-loop-look g l = record {
   game : l.board.game ≡ l.fn.board.game;
   fits : Fits l.cache (lines_of l.asked.game.now);
   most : l.search.table.most ≡ l.fn.search.table.most;

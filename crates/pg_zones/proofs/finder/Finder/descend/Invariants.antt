@@ -3,4 +3,4 @@ use Rattle.pg_patterns.specs.Known.{limits_of}
 use Rattle.pg_zones.proofs.finder.Finder.descend.Given as goal
 
 abbrev pub invariant-loop-step : goal.invariant-loop-step
-invariant-loop-step l = limits_of l.self.known ≡ limits_of l.fn.self.known
+invariant-loop-step g l = limits_of l.self.known ≡ limits_of l.fn.self.known
