@@ -1,168 +1,289 @@
 #!/usr/bin/env python3
-"""Solves some five hundred boards by posgame, and writes docs/BOARDS.md: who wins each, with how
-large a proof, in what time, and what stays unknown.
+"""Settles the boards of boards/families.txt, and compares what comes of them with
+boards/boards.csv.
 
-    bench/boards.py [PROGRAM] [--only WORD] [--positions N] [--seconds N] [--jobs N] [--out FILE]
+    bench/boards.py --jobs N [--family NAMES] [--resume] [--write] [--open] [--budgets OPTIONS]
+    bench/boards.py --board FAMILY/NAME
+    bench/boards.py --list [--family NAMES]
+    bench/boards.py --page
 
-Each certificate that is stored must be accepted. The boards are noughts and crosses, all animals
-(polyominoes) of up to five cells, which this script lists by itself, Bridg-it, boxes, and
-connectivity games on complete graphs and grids. Unproved.
+Each board is a job: `posgame solve` gets it first, and `posgame-settle` if that leaves it open.
+Both `posgame check` and the second checker, in python/, must accept the certificate, and its claims
+must imply the result. The game, the certificate and the row are stored below --out, whole or not at
+all, the row last. GNU parallel runs the jobs if it is there, with a joblog, and with --resume goes
+on where it was stopped; else this script does both by itself.
+
+At the end all cells but the seconds and the program must be those of boards.csv. --write stores the
+rows there in place of the old ones, keeps small certificates in boards/certificates/, and writes
+docs/BOARDS.md; --page only writes that page. The options of posgame-settle are --budgets, or else
+those in boards.csv, those of the family, or the usual ones; --open takes only boards that are open
+in boards.csv or aren't there. Budgets are counts; --seconds stops a job that takes more of a
+processor, and such a job leaves no row. Unproved.
 """
 from __future__ import annotations
 
 import argparse
 import concurrent.futures
-import datetime
-import itertools
-import os
+import dataclasses
+import json
+import pathlib
 import re
-import textwrap
-from typing import Iterable, Iterator, NamedTuple
+import shlex
+import subprocess
+import sys
+from typing import Iterator, Optional, Sequence
 
+import catalogue
+import families
 import kit
+import settling
+from settling import second
 
-# What the last word of a result or a class is called in the table, and the usual names of animals.
-WINNERS = {
-    "maker": "Maker", "breaker": "Breaker", "draw": "draw", "x": "first", "y": "second",
-    "avoider": "Avoider", "enforcer": "Enforcer", "short": "Short", "cut": "Cut",
-    "first-mover": "who begins",
-}
-ANSWER = rf"unknown after (\d+) positions|(?:result|class) ({'|'.join(WINNERS)})"
-NAMES = {
-    "1": "one cell", "11": "domino", "111": "tic", "11/10": "el", "1111": "skinny",
-    "11/11": "fatty", "111/010": "knobby", "111/100": "elly", "110/011": "tippy", "11111": "I",
-    "1111/1000": "L", "1111/0100": "Y", "111/110": "P", "111/101": "U", "111/100/100": "V",
-    "111/010/010": "T", "1110/0011": "N", "110/011/010": "F", "110/011/001": "W",
-    "110/010/011": "Z", "010/111/010": "X",
-}
-ANIMALS = {"maker-breaker": "Maker, who begins, wants all cells of one.",
-           "maker-maker": "both want all cells of one.",
-           "avoider-enforcer": "Avoider, who begins, loses with all cells of one."}
+POSITIONS = 20_000
+SETTLE = "--positions 1000000 --entries 1000000"
+ANSWER = re.compile(r"(?:result|class) (\S+)|unknown after (\d+) positions")
+SCRIPT = pathlib.Path(__file__).resolve()
 
 
-class Solved(NamedTuple):
-    """What came of a board. `number` counts nodes, claims of a connectivity game, or positions."""
+class Failed(Exception):
+    """Why a job has no row."""
 
-    winner: str
-    number: str
+
+@dataclasses.dataclass(frozen=True)
+class Paths:
+    """The files of a job: the game, the certificate, and the row of the CSV in JSON."""
+
+    game: pathlib.Path
+    certificate: pathlib.Path
+    row: pathlib.Path
+
+    @classmethod
+    def of(cls, out: str, key: str) -> Paths:
+        """Returns the paths of a board below a folder."""
+        return cls(*(pathlib.Path(out, f"{key}.{it}") for it in ("game", "cert", "json")))
+
+
+@dataclasses.dataclass(frozen=True)
+class Found:
+    """What a run found: the result, how many positions were expanded, if that was printed, the
+    seconds of a processor, the program with its version, and its budgets."""
+
+    result: str
+    expanded: Optional[int]
     seconds: float
-    is_settled: bool = False
-    wrong: Iterable[str] = ()
+    found_by: str
+    budgets: str
 
 
-def solved(text: str, given: argparse.Namespace) -> Solved:
-    """Solves a board and checks what was stored."""
-    flags = ["--positions", given.positions] if re.search("^kind (?!switching)", text, re.M) else []
-    done, stored, is_accepted = kit.solved(given.program, text, *flags, most=given.seconds)
-    found = re.fullmatch(ANSWER, done.said)
-    if not found:
-        return Solved("stopped" if done.status < 0 else f"status {done.status}", "", done.processor)
-    if found[1]:
-        return Solved("unknown", f"{int(found[1]):,}", done.processor)
-    counts = map(int, re.findall(r"^nodes (\d+)$", stored, re.MULTILINE))
-    number, winner, wrong = sum(counts) or stored.count("\nclaim "), WINNERS[found[2]], []
-    if not is_accepted:
-        winner, wrong = f"{winner}, not accepted", [f"{done.said} is not accepted: {text!r:.300}"]
-    return Solved(winner, f"{number:,}", done.processor, True, wrong)
+# One board.
 
 
-def animals(most: int) -> Iterator[str]:
-    """The words of all animals of up to so many cells, of each that of the image with a name."""
-    of_size: set[kit.Cells] = {((0, 0),)}
-    for _ in range(most):
-        images = (set(map(kit.word_of, kit.turned(cells))) for cells in of_size)
-        yield from sorted(((it & NAMES.keys()).pop() for it in images), key=NAMES.__getitem__)
-        of_size = {min(kit.turned([*cells, cell])) for cells in of_size
-                   for cell in kit.beside(cells)}
+def by_posgame(paths: Paths, text: str, given: argparse.Namespace) -> Found:
+    """Solves a game by posgame."""
+    is_on_lines = re.search("^kind (?!switching)", text, re.MULTILINE)
+    budgets = f"--positions {POSITIONS}" if is_on_lines else ""
+    words = [*kit.family_of(text), "solve", paths.game, paths.certificate, *budgets.split()]
+    done = kit.run(given.posgame, *words, most=given.seconds)
+    found = ANSWER.fullmatch(done.said)
+    if not found or done.status != (0 if found[1] else 1):
+        raise Failed(f"posgame ended with status {done.status}: {done.said:.100}")
+    version = (kit.TOP / "VERSION").read_text(encoding="ascii").strip()
+    return Found(found[1] or catalogue.OPEN, int(found[2]) if found[2] else None, done.processor,
+                 f"posgame {version}", budgets)
 
 
-class Part(NamedTuple):
-    """A part of the page: its title, a sentence on it, the heads of the first columns and of the
-    boards, and for each line of its table the first cells and the files of its boards."""
-
-    title: str
-    said: str
-    first: list[str]
-    heads: list[str]
-    rows: list[tuple[list[str], list[str]]]
-
-
-def boxes(kind: str, turn: str, first: str, other: str, title: str = "") -> Part:
-    """Boxes without a common point, with one to three points for Y a turn."""
-    rows = []
-    for count, size in itertools.product(range(2, 8), range(2, 6)):
-        lines = kit.line_rows(range(size * k, size * (k + 1)) for k in range(count))
-        heads = [[f"points {count * size}"] + [f"bias {it}"] * (it > 1) for it in (1, 2, 3)]
-        texts = [kit.game(kind, *head, *lines, turn=turn) for head in heads]
-        rows.append(([str(count), str(size)], texts))
-    said = (f"Boxes without common points; {first} begins, and {other} claims one to three points "
-            "in a turn.")
-    return Part(f"Boxes, {kit.KINDS[kind]}{title}", said, ["boxes", "points of each"],
-                ["1 a turn", "2 a turn", "3 a turn"], rows)
+def by_settle(paths: Paths, budgets: str, given: argparse.Namespace) -> Found:
+    """Settles a game by posgame-settle."""
+    words = [paths.game, paths.certificate, *budgets.split(), "--json"]
+    done = kit.run(given.settle, *words, most=given.seconds)
+    if done.status not in (0, 1):
+        raise Failed(f"posgame-settle ended with status {done.status}: {done.said:.100}")
+    said = json.loads(done.output)
+    if (said["answer"] == "none") != (done.status == 1):
+        raise Failed(f"posgame-settle ended with status {done.status}: {done.said:.100}")
+    return Found(said["result"], said["expanded"], done.processor,
+                 f"posgame-settle {said['version']}", budgets)
 
 
-def parts() -> Iterator[Part]:
-    """Yields the parts of the page."""
-    heads = {size: [f"grid {size} {size}", *kit.line_rows(kit.in_row(size, size, size, True))]
-             for size in range(2, 6)}
-    yield Part("Noughts and crosses", "The lines are rows, columns and both diagonals. X begins.",
-               ["board"], list(kit.KINDS.values()),
-               [([f"{size} by {size}"], [kit.game(kind, *head) for kind in kit.KINDS])
-                for size, head in heads.items()])
-    for kind, goal in ANIMALS.items():
-        said = f"All animals of up to five cells, in each position, turned and reflected: {goal}"
-        grids = {f"{it} by {it}": f"grid {it} {it}" for it in (3, 4, 5, 6)}
-        rows = [([f"{NAMES[word]} `{word}`"],
-                 [kit.game(kind, grid, f"shape {word}") for grid in grids.values()])
-                for word in animals(5)]
-        yield Part(f"Animals, {kit.KINDS[kind]}", said, ["animal"], list(grids), rows)
-    yield Part("Bridg-it", "Whoever begins wins, by two trees and two cuts.", ["rows", "edges"],
-               ["class"], [([str(rows), str(len(graph[1]))], [kit.switching(graph)])
-                           for rows, graph in enumerate(map(kit.bridge, range(1, 23)), 1)])
-    yield boxes("maker-breaker", "x", "Maker", "Breaker")
-    for turn, first in ("x", "Avoider"), ("y", "Enforcer"):
-        yield boxes("avoider-enforcer", turn, first, "Enforcer", f", {first} begins")
-    graphs = {f"complete graph on {many}": kit.complete(many) for many in range(2, 13)}
-    graphs |= {f"grid of {rows} by {columns}": kit.grid(rows, columns)
-               for rows in range(2, 7) for columns in range(rows, 7)}
-    yield Part("Connectivity games", "Maker wants to join all vertices. The proof has a claim with "
-               "either side to move.", ["graph", "edges"], ["class"],
-               [([name, str(len(graph[1]))], [kit.span(graph)]) for name, graph in graphs.items()])
+def row_of(board: families.Board, found: Found, certificate: bytes) -> catalogue.Row:
+    """Returns the row of a board, with the bytes of its certificate, or none if it stays open."""
+    header = board.text.split()[0]
+    game = second.read_game(board.text.encode(), header)
+    kind = "connectivity" if header == "posgame-span" else game.kind
+    begins = "either" if kind in catalogue.ON_GRAPHS else catalogue.SIDES[kind][game.turn == "y"]
+    text = certificate.decode("ascii")
+    claims = [it if it.count(" ") == 2 else f"{it} win"
+              for it in re.findall(r"^claim (.*)$", text, re.MULTILINE)]
+    nodes = sum(map(int, re.findall(r"^nodes (\d+)$", text, re.MULTILINE))) or len(claims)
+    return catalogue.Row(
+        board.family, board.name, kind, game.bias, begins, game.points, len(game.lines),
+        found.result, "; ".join(claims), int(text.split()[1]) if text else None, nodes or None,
+        len(certificate) or None, found.expanded, found.seconds, found.found_by, found.budgets,
+        catalogue.sum_of(board.text.encode()), catalogue.sum_of(certificate) if text else "",
+        catalogue.known(board.key))
 
 
-def section(part: Part, pool: concurrent.futures.Executor,
-            given: argparse.Namespace) -> tuple[list[str], list[Solved]]:
-    """Solves the boards of a part; returns its lines of the page, and what came of each board."""
-    texts = [text for _, of_row in part.rows for text in of_row]
-    boards = list(pool.map(solved, texts, itertools.repeat(given)))
-    settled, seconds = sum(it.is_settled for it in boards), sum(it.seconds for it in boards)
-    said = f"{settled} of {len(boards)} settled, in {seconds:.0f} s of a processor."
-    print(f"{part.title}: {said}", flush=True)
-    number, left = "claims" if part.title.startswith("Connectivity") else "nodes", iter(boards)
-    lines = [[*names, *(cell for it in itertools.islice(left, len(of_row))
-                        for cell in (it.winner, it.number, f"{it.seconds:.2f}"))]
-             for names, of_row in part.rows]
-    columns = part.first + [cell for it in part.heads for cell in (it, number, "s")]
-    prose = textwrap.wrap(f"{part.said} {said}", 100)
-    return [f"## {part.title}", "", *prose, "", *kit.table(columns, lines), ""], boards
+def settled(board: families.Board, budgets: str, given: argparse.Namespace) -> catalogue.Row:
+    """Settles a board, has the certificate checked, stores the row, and returns it."""
+    paths = Paths.of(given.out, board.key)
+    for path in dataclasses.astuple(paths):
+        path.unlink(missing_ok=True)
+    catalogue.store(paths.game, board.text.encode())
+    found = by_posgame(paths, board.text, given)
+    if found.result == catalogue.OPEN:
+        found = by_settle(paths, budgets, given)
+    certificate = paths.certificate.read_bytes() if paths.certificate.exists() else b""
+    row = row_of(board, found, certificate)
+    wrong = [*catalogue.problems(row)]
+    wrong += settling.checkers(given.posgame, paths.game, paths.certificate) if certificate else []
+    if wrong:
+        raise Failed("; ".join(wrong))
+    catalogue.store(paths.row, json.dumps(row.cells(), indent=1).encode())
+    return row
+
+
+def usual(board: families.Board) -> str:
+    """Returns the options of posgame-settle for a board, if none are given: those of its row in
+    boards.csv, of its family, or the usual ones."""
+    row, (family,) = catalogue.read_rows().get(board.key), families.chosen(board.family)
+    stored = row.budgets if row and row.found_by.startswith("posgame-settle ") else ""
+    return stored or family.options(board.name) or SETTLE
+
+
+def job(given: argparse.Namespace) -> int:
+    """Settles the board --board, and returns the status."""
+    board = families.board_of(given.board)
+    try:
+        row = settled(board, given.budgets or usual(board), given)
+    except Failed as why:
+        return kit.end([f"{board.key}: {why}"])
+    print(f"{board.key}: {row.result}, {row.found_by}, {row.seconds:.2f} s", flush=True)
+    return 0
+
+
+# Many boards.
+
+
+def command(given: argparse.Namespace) -> list[str]:
+    """Returns the command of a job, without its board."""
+    same = ("posgame", "settle", "out", "seconds", "budgets")
+    words = [f"--{name}={getattr(given, name)}" for name in same if getattr(given, name)]
+    return [sys.executable, str(SCRIPT), *words]
+
+
+def without_row(keys: Sequence[str], given: argparse.Namespace) -> list[str]:
+    """Returns the boards whose jobs have stored no row."""
+    return [key for key in keys if not Paths.of(given.out, key).row.exists()]
+
+
+def by_parallel(keys: Sequence[str], given: argparse.Namespace) -> None:
+    """Runs the jobs by GNU parallel, whose joblog says which have ended; if there is no joblog,
+    those of boards without a row."""
+    name = "-".join(["joblog", *[given.family] * (given.family != ""), *["open"] * given.open])
+    log = pathlib.Path(given.out, name)
+    words = ["parallel", f"--jobs={given.jobs}", f"--joblog={log}"]
+    goes_on = given.resume and log.exists()
+    words += ["--resume-failed"] if goes_on else []
+    left = keys if goes_on else without_row(keys, given)
+    subprocess.run([*words, f"{shlex.join(command(given))} --board {{}}"],
+                   input="".join(f"{key}\n" for key in left), text=True, check=False)
+
+
+def by_itself(keys: Sequence[str], given: argparse.Namespace) -> None:
+    """Runs the jobs of boards without a row."""
+    def run(key: str) -> None:
+        subprocess.run([*command(given), "--board", key], check=False)
+
+    with concurrent.futures.ThreadPoolExecutor(given.jobs) as pool:
+        list(pool.map(run, without_row(keys, given)))
+
+
+def run_jobs(keys: Sequence[str], given: argparse.Namespace) -> None:
+    """Runs the jobs of these boards; without --resume, all of them."""
+    pathlib.Path(given.out).mkdir(parents=True, exist_ok=True)
+    for key in [] if given.resume else keys:
+        Paths.of(given.out, key).row.unlink(missing_ok=True)
+    (by_parallel if kit.has_parallel() else by_itself)(keys, given)
+
+
+def found_rows(keys: Sequence[str], out: str) -> dict[str, catalogue.Row]:
+    """Returns the rows that jobs have stored, by the keys of their boards."""
+    paths = {key: Paths.of(out, key).row for key in keys}
+    return {key: catalogue.row_of(json.loads(path.read_text(encoding="utf-8")))
+            for key, path in paths.items() if path.exists()}
+
+
+def differences(row: catalogue.Row, old: Optional[catalogue.Row]) -> Iterator[str]:
+    """Yields what differs between a row and that of boards.csv."""
+    if old is None:
+        yield f"{row.key}: boards.csv has no such row"
+        return
+    cells = old.cells()
+    for name, text in row.cells().items():
+        if name not in ("seconds", "found_by") and text != cells[name]:
+            yield f"{row.key}: {name} {text}, and {cells[name]} in boards.csv"
+
+
+def write(rows: dict[str, catalogue.Row], out: str) -> None:
+    """Stores rows in boards.csv, small certificates, and the page."""
+    for key, row in rows.items():
+        kept = catalogue.CERTIFICATES / f"{key}.cert"
+        kept.unlink(missing_ok=True)
+        if row.bytes and row.bytes <= catalogue.KEPT:
+            catalogue.store(kept, Paths.of(out, key).certificate.read_bytes())
+    catalogue.write_rows({**catalogue.read_rows(), **rows})
+    write_page()
+
+
+def write_page() -> None:
+    """Writes docs/BOARDS.md."""
+    catalogue.store(catalogue.PAGE, catalogue.page(catalogue.read_rows()).encode())
+
+
+def settle_all(given: argparse.Namespace) -> int:
+    """Settles the boards of a family, or of all; returns the status."""
+    old = catalogue.read_rows()
+    of_family = {it.title: [board.key for board in it.boards if not given.open
+                            or board.key not in old or old[board.key].is_open]
+                 for it in families.chosen(given.family)}
+    keys = [key for those in of_family.values() for key in those]
+    run_jobs(keys, given)
+    rows = found_rows(keys, given.out)
+    for title, those in of_family.items():
+        done = [rows[key] for key in those if key in rows]
+        print(f"{title}: {sum(not it.is_open for it in done)} of {len(those)} settled, "
+              f"{sum(it.seconds for it in done):.0f} s of a processor", flush=True)
+    wrong = [f"{key}: no row" for key in keys if key not in rows]
+    if given.write:
+        write(rows, given.out)
+    else:
+        wrong += [it for key, row in rows.items() for it in differences(row, old.get(key))]
+    return kit.end(wrong)
 
 
 def main() -> int:
     given = kit.options(
-        __doc__, positions=(20_000, "most positions a question"), out=("", "the file written"),
-        seconds=(120, "processor seconds a run"), jobs=(os.cpu_count(), "runs at once"),
-        only=("", "parts with this word in their title, printed unless --out names a file"))
-    with concurrent.futures.ThreadPoolExecutor(given.jobs) as pool:
-        sections = [section(it, pool, given) for it in parts() if given.only in it.title]
-    boards = [it for _, of_part in sections for it in of_part]
-    lines = [line for of_part, _ in sections for line in of_part]
-    # The first paragraph of the page is written anew.
-    title, _, *others = kit.prose("BOARDS.md").split("\n\n")
-    said = (f"{len(boards)} boards, solved by `bench/boards.py` on {datetime.date.today()} with at "
-            f"most\n{given.positions:,} positions a question and {given.seconds} s a run: "
-            f"{sum(it.is_settled for it in boards)} are settled.")
-    kit.write_page(["\n\n".join([title, said, *others]), *lines], given, "BOARDS.md")
-    return kit.end(fault for it in boards for fault in it.wrong)
+        __doc__, None, jobs=(1, "jobs at once"), family=("", "these families alone, with commas"),
+        board=("", "this board alone, FAMILY/NAME"), list=(False, "print the boards"),
+        resume=(False, "go on after a run that was stopped"), write=(False, "store the rows"),
+        open=(False, "boards that are open or have no row alone"),
+        page=(False, "write docs/BOARDS.md"), out=(str(families.FOLDER / "out"), "the folder"),
+        posgame=(str(kit.built("posgame")), "the program posgame"),
+        settle=(str(kit.built("posgame_settle")), "the program posgame-settle"),
+        budgets=("", "options of posgame-settle, in one word"),
+        seconds=(0, "the most processor seconds of a run, or 0"))
+    try:
+        families.chosen(given.family)
+    except KeyError as name:
+        return kit.end([f"there is no family {name}"])
+    if given.page:
+        write_page()
+        return 0
+    if given.list:
+        print(*(board.key for it in families.chosen(given.family) for board in it.boards), sep="\n")
+        return 0
+    given.posgame, given.settle = map(kit.program_path, (given.posgame, given.settle))
+    return job(given) if given.board else settle_all(given)
 
 
 if __name__ == "__main__":

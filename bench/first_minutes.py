@@ -1,8 +1,9 @@
 #!/usr/bin/env python3
-"""Tries what a new user meets first, in rows by seven points.
+"""Tries what a new user meets first, in rows by eight points.
 
 1 an answer at once      2 ./prove        3 what went wrong is said to people
 4 licence and version    5 install        6 README        7 the first example is a board
+8 many boards
 
 The quick rows take the proved programs in crates/NAME/out; no clock decides them. The rows of
 minutes need a quiet machine where they have a limit of time. One row is tried only where it is
@@ -31,6 +32,7 @@ import tempfile
 import time
 import typing
 
+import many
 import prove_stand_in
 import release
 
@@ -733,6 +735,8 @@ ROWS = [
     Row(6, "README's commands, installed", of_problems(release.installed), "minutes"),
     Row(6, "crates of docs/ARCHITECTURE.md", of_problems(release.crates)),
     Row(7, "the first example is a board", board_has_cells),
+    Row(8, "many boards by GNU parallel", of_problems(many.by_parallel)),
+    Row(8, "many boards by make", of_problems(many.by_make)),
 ]
 
 

@@ -194,6 +194,12 @@ def has_valgrind() -> bool:
     return shutil.which("valgrind") is not None
 
 
+def has_parallel() -> bool:
+    """Tells whether GNU parallel is here; another command has this name too."""
+    return shutil.which("parallel") is not None \
+        and call("parallel", "--version").stdout.startswith("GNU parallel")
+
+
 class Count(NamedTuple):
     """Callgrind's count of a whole run, and what the program printed."""
 
@@ -315,15 +321,15 @@ def files(**texts: str) -> Iterator[pathlib.Path]:
         yield pathlib.Path(name)
 
 
-def data(name: str) -> str:
-    """Returns the text of a file of bench/ without comments, lines that go on being joined."""
-    text = (TOP / "bench" / name).read_text(encoding="utf-8").replace("\\\n    ", "")
+def data(name: str, folder: str = "bench") -> str:
+    """Returns the text of a file of a folder without comments, lines that go on being joined."""
+    text = (TOP / folder / name).read_text(encoding="utf-8").replace("\\\n    ", "")
     return re.sub("^# .*\n", "", text, flags=re.MULTILINE)
 
 
-def stanzas(name: str) -> list[list[str]]:
-    """Returns the lines of each part of a file of bench/; empty lines divide."""
-    return [it.split("\n") for it in re.findall(r"(?:.+\n)*.+", data(name))]
+def stanzas(name: str, folder: str = "bench") -> list[list[str]]:
+    """Returns the lines of each part of a file of a folder; empty lines divide."""
+    return [it.split("\n") for it in re.findall(r"(?:.+\n)*.+", data(name, folder))]
 
 
 def field(numbers: Iterable[object]) -> str:

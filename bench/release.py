@@ -35,6 +35,7 @@ STARTERS = (
     "launch/posgame-draw",
     "launch/posgame-settle",
 )
+CLUSTER = ("cluster/settle-one", "cluster/settle.sbatch", "cluster/try-slurm")
 APACHE = "cfc7749b96f63bd31c3c42b5c471bf756814053e847c10f3eb003417bc523d30"
 BARE = {"PATH": "/usr/bin:/bin"}
 EPOCH = "1700000000"
@@ -301,7 +302,7 @@ def completion(_: pathlib.Path) -> list[str]:
 
 def scripts(_: pathlib.Path) -> list[str]:
     """Reads the scripts by bash and shellcheck, and calls them with arguments that mean nothing."""
-    read = (*SCRIPTS, *STARTERS, ".ci/run")
+    read = (*SCRIPTS, *STARTERS, *CLUSTER, ".ci/run")
     problems = [
         it for name in read for it in differs(name, run(["bash", "-n", TOP / name]).stderr, "")
     ]

@@ -3,8 +3,8 @@
 
     bench/same_search.py OLD NEW [--random N] [--seed N] [--only WORD] [--positions N] [--jobs N]
 
-Both solve the boards of docs/BOARDS.md and N random games on lines of all kinds and biases. What
-they print, their statuses and their certificates must be the same to the byte. `review` prints
+Both solve the boards of boards/families.txt and N random games on lines of all kinds and biases.
+What they print, their statuses and their certificates must be the same to the byte. `review` prints
 what is expanded, so it is compared too, on a record of random moves of each random game in which Y
 claims one point a turn. The status is 1 if anything differs. Unproved.
 """
@@ -17,7 +17,7 @@ import os
 import re
 from collections.abc import Iterator
 
-import boards
+import families
 import kit
 
 KINDS = ("maker-breaker", "maker-maker", "avoider-enforcer")
@@ -80,10 +80,9 @@ def compared(case: tuple[str, str, str], given: argparse.Namespace) -> str:
 
 def cases(given: argparse.Namespace) -> Iterator[tuple[str, str, str]]:
     """Yields the games, each with its name and a record, which may be empty."""
-    for part in boards.parts():
-        if given.only in part.title:
-            texts = (text for _, of_row in part.rows for text in of_row)
-            yield from ((f"{part.title}, board {k}", it, "") for k, it in enumerate(texts))
+    for family in families.families():
+        if given.only in family.title:
+            yield from ((it.key, it.text, "") for it in family.boards)
     draws = kit.Draws(given.seed)
     for k in range(given.random):
         text = random_game(draws)
@@ -97,7 +96,7 @@ def main() -> int:
     words.add_argument("new", metavar="NEW", type=kit.program_path, help="the other one")
     words.add_argument("--random", type=int, default=500, help="how many random games")
     words.add_argument("--seed", type=int, default=1, help="from which they are drawn")
-    words.add_argument("--only", default="", help="parts of the boards with this in their title")
+    words.add_argument("--only", default="", help="families with this in their title")
     words.add_argument("--positions", type=int, default=2_000, help="most positions a question")
     words.add_argument("--jobs", type=int, default=os.cpu_count(), help="runs at once")
     given = words.parse_args()

@@ -26,7 +26,7 @@ import re
 import sys
 from typing import Iterable, Iterator, NamedTuple
 
-import boards
+import families
 import kit
 import same_search
 
@@ -37,7 +37,6 @@ import posgame.check as second  # noqa: E402
 MEGABYTES = 1_000
 # How many times the nodes and the seconds of bench/settling.txt are allowed.
 NODES, SECONDS = 1.5, 3
-SHAPES = {**boards.NAMES, "11110/00011": "Snaky"}
 # The results of each kind, by the score of brute force: a draw, a win of X, a win of Y.
 RESULTS = {"maker-breaker": ("", "maker", "breaker"), "maker-maker": ("draw", "x", "y"),
            "avoider-enforcer": ("", "avoider", "enforcer")}
@@ -83,10 +82,9 @@ class Settled(NamedTuple):
 
 def boxes(count: int, size: int, bias: int, turn: str) -> tuple[str, list[str]]:
     """Returns the name and the rows of a game of boxes without common points."""
-    lines = kit.line_rows(range(size * k, size * (k + 1)) for k in range(count))
     first = "Avoider" if turn == "x" else "Enforcer"
     name = f"{count} boxes of {size}, bias {bias}, {first} begins"
-    return name, [f"points {count * size}", *[f"bias {bias}"] * (bias > 1), *lines]
+    return name, families.box_rows(count, size, bias)
 
 
 def board(words: Iterable[str]) -> Board:
@@ -105,7 +103,7 @@ def board(words: Iterable[str]) -> Board:
         rows = [f"grid {two} {one}", f"shape {what}"]
         if family == "row":
             rows[1:] = kit.line_rows(kit.in_row(int(one), int(two), int(what)))
-        name = SHAPES[what] if family == "shape" else f"{what} in a row"
+        name = families.NAMES[what] if family == "shape" else f"{what} in a row"
         name += f", {one} by {two}"
     text = kit.game(kind, *rows, turn=turn or "x")
     return Board(f"{name}, {kit.KINDS[kind]}", text, result, int(nodes), float(seconds))
@@ -113,7 +111,8 @@ def board(words: Iterable[str]) -> Board:
 
 def checkers(posgame: str, game: pathlib.Path, certificate: pathlib.Path) -> Iterator[str]:
     """Yields what is wrong by each of the two checkers with a certificate."""
-    done = kit.run(posgame, "check", game, certificate)
+    words = kit.family_of(game.read_text(encoding="ascii"))
+    done = kit.run(posgame, *words, "check", game, certificate)
     if not done.is_accepted:
         yield f"check: {done.said or done.errors:.200}"
     try:

@@ -5,7 +5,9 @@ from __future__ import annotations
 import doctest
 import unittest
 
+import catalogue
 import checked
+import families
 import lay_out
 import same_search
 import settling
@@ -15,7 +17,7 @@ import width
 
 def load_tests(_: unittest.TestLoader, tests: unittest.TestSuite, __: object) -> unittest.TestSuite:
     """Adds the examples of each script."""
-    for script in checked, lay_out, same_search, settling, theorem, width:
+    for script in catalogue, checked, families, lay_out, same_search, settling, theorem, width:
         tests.addTests(doctest.DocTestSuite(script))
     return tests
 
