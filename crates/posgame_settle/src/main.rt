@@ -7,12 +7,11 @@ mod complaint;
 mod progress;
 mod usage;
 
-use pg_finder::ProofNumbers;
 use pg_host::{HostConsole, HostFiles, guard_streams};
 use pg_messages::{NO_MEANING, NO_MEMORY, NO_WORDS};
 use pg_moves::{MovesOrder, settle_moves};
 use pg_settle::{Budget, Order, budget_for, settle};
-use progress::ProgressLine;
+use progress::ShownFinder;
 use std::env;
 use std::io::ErrorKind;
 use std::process::ExitCode;
@@ -36,13 +35,6 @@ fn words_given(rt: &HostRuntime) -> Result<Vec<String>, u8> {
     Ok(words)
 }
 
-/// Returns what finds certificates, and shows how far it is if that is asked for.
-fn finder_for<'a>(rt: &'a HostRuntime, asked: &Asked<'_>) -> ProofNumbers<ProgressLine<'a>> {
-    ProofNumbers {
-        watch: ProgressLine::new(rt, asked.progress),
-    }
-}
-
 /// Tries the moves of the game, and returns the status.
 fn run_on_moves(rt: &HostRuntime, asked: &Asked<'_>, budget: Budget) -> u8
     requires { IsBudget budget }
@@ -52,7 +44,7 @@ fn run_on_moves(rt: &HostRuntime, asked: &Asked<'_>, budget: Budget) -> u8
         budget,
         json: asked.json,
     };
-    let mut finder = finder_for(rt, asked);
+    let mut finder = ShownFinder::new(rt, asked.progress);
     let mut files = HostFiles::new(rt);
     let mut console = HostConsole::new(rt);
     settle_moves(rt.alloc(), order, &mut finder, &mut files, &mut console)
@@ -73,7 +65,7 @@ fn run(rt: &HostRuntime, asked: &Asked<'_>) -> u8 {
         images: asked.images,
         json: asked.json,
     };
-    let mut finder = finder_for(rt, asked);
+    let mut finder = ShownFinder::new(rt, asked.progress);
     let mut files = HostFiles::new(rt);
     let mut console = HostConsole::new(rt);
     settle(rt.alloc(), order, &mut finder, &mut files, &mut console)
@@ -93,7 +85,6 @@ fn main(rt: HostRuntime) -> ExitCode {
         }
     };
     let status = run(&rt, &asked);
-    ProgressLine::new(&rt, asked.progress).clear();
     complaint::say(&rt, status, &asked);
     ExitCode::from(status)
 }

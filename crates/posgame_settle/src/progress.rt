@@ -1,5 +1,12 @@
 //! How far a search is, said on standard error.
+ghost use Rattle.pg_finder.specs.Findings.{IsFound};
+
+use pg_base::Memory;
+use pg_finder::ProofNumbers;
+use pg_game::Game;
 use pg_limits::{Progress, Watch};
+use pg_settle::{Budget, Finder, Outcome};
+use std::alloc::Global;
 
 /// A line on standard error that says how far the search is. Each note takes the place of the last.
 #[derive(Clone, Copy)]
@@ -8,14 +15,9 @@ pub(crate) struct ProgressLine<'a> {
     is_shown: bool,
 }
 
-impl<'a> ProgressLine<'a> {
-    /// Returns a line that is shown if `is_shown`.
-    pub(crate) fn new(rt: &'a HostRuntime, is_shown: bool) -> ProgressLine<'a> {
-        ProgressLine { rt, is_shown }
-    }
-
+impl ProgressLine<'_> {
     /// Clears the line.
-    pub(crate) fn clear(&self) {
+    fn clear(&self) {
         if self.is_shown {
             let _ = eprint!(self.rt; "\r\x1b[K");
         }
@@ -39,5 +41,31 @@ impl Watch for ProgressLine<'_> {
             ),
             Progress::Writing { nodes } => eprint!(self.rt; "\r\x1b[Knodes {nodes}"),
         };
+    }
+}
+
+/// The finder of `pg_finder`, with a line that is cleared before anything is printed.
+pub(crate) struct ShownFinder<'a> {
+    finder: ProofNumbers<ProgressLine<'a>>,
+}
+
+impl<'a> ShownFinder<'a> {
+    /// Returns the finder; the line is shown if `is_shown`.
+    pub(crate) fn new(rt: &'a HostRuntime, is_shown: bool) -> ShownFinder<'a> {
+        ShownFinder {
+            finder: ProofNumbers {
+                watch: ProgressLine { rt, is_shown },
+            },
+        }
+    }
+}
+
+impl Finder for ShownFinder<'_> {
+    ghost brings = { λ _ game budget outcome. IsFound game budget outcome.finding };
+
+    fn find(&mut self, alloc: Global, game: &Game, budget: Budget) -> Result<Outcome, Memory> {
+        let found = self.finder.find(alloc, game, budget);
+        self.finder.watch.clear();
+        found
     }
 }
