@@ -35,8 +35,7 @@ impl Watch for ProgressLine<'_> {
                 entries,
                 proof,
                 disproof,
-            } => eprint!(
-                self.rt;
+            } => eprint!(self.rt;
                 "\r\x1b[Kexpanded {expanded}, kept {entries}, numbers {proof} and {disproof}"
             ),
             Progress::Writing { nodes } => eprint!(self.rt; "\r\x1b[Knodes {nodes}"),
@@ -45,6 +44,7 @@ impl Watch for ProgressLine<'_> {
 }
 
 /// The finder of `pg_finder`, with a line that is cleared before anything is printed.
+#[derive(Clone, Copy)]
 pub(crate) struct ShownFinder<'a> {
     finder: ProofNumbers<ProgressLine<'a>>,
 }
