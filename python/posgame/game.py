@@ -184,7 +184,7 @@ class Game:
         """Returns the value after each legal move, and the moves that keep the value of the game,
         by `posgame-settle moves`. The limits of `settle` apply to each move by itself.
 
-        >>> Game.from_lines([["a", "b"], ["a", "c"]], turn="y").moves().best
+        >>> Game.from_lines([["a", "b"], ["a", "c"], ["a", "d"]], turn="y").moves().best
         ('a',)
         """
         words = ["moves", "GAME", "--json"]

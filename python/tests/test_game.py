@@ -166,14 +166,14 @@ class Answers(unittest.TestCase):
     def test_moves(self) -> None:
         if not is_there("posgame-settle"):
             self.skipTest("posgame-settle is not found")
-        rows = [["a", "b"], ["a", "c"]]
+        rows = [["a", "b"], ["a", "c"], ["a", "d"]]
         moves = Game.from_lines(rows, turn="y").moves(entries=100_000)
         self.assertEqual([(it.point, it.answer) for it in moves.trials],
-                         [("a", "breaker"), ("b", "maker"), ("c", "maker")])
+                         [("a", "breaker"), ("b", "maker"), ("c", "maker"), ("d", "maker")])
         self.assertEqual(moves.best, ("a",))
         self.assertTrue(all(it.nodes for it in moves.trials))
         for trial in moves.trials:
-            after = Game.from_lines(rows, points=["a", "b", "c"], y=[trial.point])
+            after = Game.from_lines(rows, points=["a", "b", "c", "d"], y=[trial.point])
             self.assertEqual(after.solve().answer, trial.answer)
         over = Game.from_lines(rows, x=["a", "b"]).moves()
         self.assertEqual((over.trials, over.best), ((), ()))
