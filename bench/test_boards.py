@@ -302,12 +302,12 @@ class Options(unittest.TestCase):
         self.assertEqual(output.getvalue(), "wrong: there is no family 'none'\n")
 
     def test_budgets(self) -> None:
-        board = families.board_of("animals-maker-maker/L-6x6")
+        board = families.board_of("animals-avoider-enforcer/el-4x4")
         row = dataclasses.replace(OPEN_ROW, family=board.family, name=board.name)
         family, = families.chosen(board.family)
-        for rows, due in (({row.key: row}, "--positions 7"), ({}, family.options("L-6x6")),
+        for rows, due in (({row.key: row}, "--positions 7"), ({}, family.options("el-4x4")),
                           ({row.key: dataclasses.replace(row, found_by="posgame 1.0.0")},
-                           family.options("L-6x6"))):
+                           family.options("el-4x4"))):
             with mock.patch.object(catalogue, "read_rows", return_value=rows):
                 self.assertEqual(boards.usual(board), due)
         with mock.patch.object(catalogue, "read_rows", return_value={}):
