@@ -188,9 +188,10 @@ def known(key: str) -> str:
 # The page.
 
 
-def wrapped(text: str) -> list[str]:
-    """Returns the lines of a paragraph."""
-    return textwrap.wrap(text, 100, break_on_hyphens=False, break_long_words=False)
+def wrapped(text: str, indent: str = "") -> list[str]:
+    """Returns the lines of a paragraph, all but the first with this indentation."""
+    return textwrap.wrap(text, 100, subsequent_indent=indent, break_on_hyphens=False,
+                         break_long_words=False)
 
 
 def table_of(family: families.Family, rows: Mapping[str, Row]) -> list[str]:
@@ -220,8 +221,7 @@ def open_lines(family: families.Family, rows: Mapping[str, Row]) -> Iterator[str
             words = f"`{row.found_by.split(' ')[0]} {row.budgets}`"
             tried.setdefault(words, []).append(f"{board.name} ({row.expanded:,})")
     for words, names in tried.items():
-        lines = wrapped(f"- open after {words}: {', '.join(names)}")
-        yield from [lines[0], *(f"  {it}" for it in lines[1:])]
+        yield from wrapped(f"- open after {words}: {', '.join(names)}", "  ")
 
 
 def section(family: families.Family, rows: Mapping[str, Row]) -> list[str]:
