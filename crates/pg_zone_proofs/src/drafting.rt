@@ -280,12 +280,7 @@ impl<'a> Draft<'a> {
     }
 
     /// Adds all nodes, the last at the game's own position. Returns false if it is stuck.
-    fn fill<W: Watch>(
-        &mut self,
-        alloc: Global,
-        root: Image,
-        watch: &mut W,
-    ) -> Result<bool, Memory>
+    fn fill<W: Watch>(&mut self, alloc: Global, root: Image, watch: &mut W) -> Result<bool, Memory>
         requires { AreFit self.old.nodes.items }
         ensures { AreFit self.new.nodes.items }
     {

@@ -12,8 +12,7 @@ use pg_base::Memory;
 use pg_game::Game;
 use pg_limits::{Limits, Progress, Watch};
 use pg_patterns::{
-    Arena, Entry, Glimpse, Known, Numbers, Spot, Undecided, heaviest_first, total_weight,
-    weigh,
+    Arena, Entry, Glimpse, Known, Numbers, Spot, Undecided, heaviest_first, total_weight, weigh,
 };
 use std::alloc::Global;
 
