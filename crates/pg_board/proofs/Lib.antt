@@ -2,7 +2,6 @@ mod Common
 pub mod CellPlaces
 pub mod Ranges
 pub mod Moving
-pub mod RowLemmas
 pub mod Claiming
 pub mod LineSteps
 pub mod Through

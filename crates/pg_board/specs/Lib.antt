@@ -1,5 +1,4 @@
 pub mod Prelude
-pub mod Rows
 pub mod Shape
 pub mod Counts
 pub mod Lines

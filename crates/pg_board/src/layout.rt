@@ -5,9 +5,9 @@ ghost use Rattle.pg_board.specs.Gathered.{AreGathered};
 ghost use Rattle.pg_board.specs.Shape.{IsShape, shape_of, line_in, lines_through, mark_cell};
 ghost use Rattle.pg_board.specs.Shape.{count_cell, free_cell, cell_count, lines_holding};
 
-use crate::rows::{Row, Rows};
 use pg_base::{Line, Memory, Side};
 use pg_game::{Game, MAX_LINES, greatest_length};
+use pg_undo::{Row, Rows};
 use std::alloc::Global;
 use std::marker::Model;
 

@@ -1,15 +1,15 @@
-//! Lists of numbers, one after the other in one array.
+//! Rows of numbers, one after the other in one array.
 ghost use Rattle.std.specs.Prelude.{◌≡◌, ◌++◌, ◌∷◌, [], ◌<◌, ◌≤◌, ◌+◌, ◌-◌, take, drop, length};
-ghost use Rattle.std.specs.Prelude.{get_or, replicate, IfOk};
-ghost use Rattle.pg_board.specs.Rows.{row_at, AreStarts};
+ghost use Rattle.std.specs.Prelude.{get_or, IfOk};
+ghost use Rattle.pg_undo.specs.Rows.{row_at, AreStarts};
 
 use pg_base::Memory;
 use std::alloc::Global;
 use std::marker::Model;
 
-/// Rows of numbers.
+/// Rows of numbers of any lengths, kept in one array (compressed sparse rows).
 #[derive(Debug, Drop)]
-pub(crate) struct Rows {
+pub struct Rows {
     /// Where each row begins, and where the last one ends.
     starts: Vec<usize>,
     /// The rows, one after the other.
@@ -19,7 +19,7 @@ pub(crate) struct Rows {
 /// The rows.
 impl Model for Rows {
     ghost use Rattle.std.specs.Prelude.{ℕ, List};
-    ghost use Rattle.pg_board.specs.Rows.{rows_of, AreStarts};
+    ghost use Rattle.pg_undo.specs.Rows.{rows_of, AreStarts};
 
     ghost Value = { List (List ℕ) };
 
@@ -29,8 +29,12 @@ impl Model for Rows {
 }
 
 impl Rows {
-    /// No rows.
-    pub(crate) fn new(alloc: Global) -> Result<Rows, Memory>
+    /// Returns no rows.
+    ///
+    /// # Errors
+    ///
+    /// `Memory` if no memory is found.
+    pub fn new(alloc: Global) -> Result<Rows, Memory>
         ensures { IfOk result (λ rows. rows ≡ []) }
     {
         let mut starts = Vec::new(alloc);
@@ -41,8 +45,12 @@ impl Rows {
         })
     }
 
-    /// One row more.
-    pub(crate) fn with_row(mut self, row: &[u32]) -> Result<Rows, Memory>
+    /// Adds a row after the others.
+    ///
+    /// # Errors
+    ///
+    /// `Memory` if no memory is found.
+    pub fn with_row(mut self, row: &[u32]) -> Result<Rows, Memory>
         ensures { IfOk result (λ rows. rows ≡ self ++ row.now ∷ []) }
     {
         let Rows {
@@ -54,23 +62,23 @@ impl Rows {
         Ok(Rows { starts, items })
     }
 
-    /// How many rows there are.
-    pub(crate) fn len(&self) -> usize
+    /// Returns how many rows there are.
+    pub fn len(&self) -> usize
         ensures { result ≡ length self.now }
     {
         self.starts.len() - 1
     }
 
-    /// How long the row of a number is.
-    pub(crate) fn row_len(&self, i: usize) -> usize
+    /// Returns how many numbers row `i` has, counted from 0.
+    pub fn row_len(&self, i: usize) -> usize
         requires { i < length self.now }
         ensures { result ≡ length (get_or self.now i []) }
     {
         len_of(self.starts.as_slice(), i)
     }
 
-    /// The row of a number.
-    pub(crate) fn row(&self, i: usize) -> &[u32]
+    /// Returns row `i`, counted from 0.
+    pub fn row(&self, i: usize) -> &[u32]
         requires { i < length self.now }
         ensures { result.now ≡ get_or self.now i [] }
     {
@@ -80,7 +88,7 @@ impl Rows {
 
 /// A row that grows.
 #[derive(Debug, Drop)]
-pub(crate) struct Row {
+pub struct Row {
     items: Vec<u32>,
 }
 
@@ -94,8 +102,8 @@ impl Model for Row {
 }
 
 impl Row {
-    /// A row without a number.
-    pub(crate) fn new(alloc: Global) -> Row
+    /// Returns a row without a number.
+    pub fn new(alloc: Global) -> Row
         ensures { result ≡ [] }
     {
         Row {
@@ -103,16 +111,20 @@ impl Row {
         }
     }
 
-    /// One number more, at the end.
-    pub(crate) fn push(&mut self, i: u32) -> Result<(), Memory>
+    /// Adds a number at the end.
+    ///
+    /// # Errors
+    ///
+    /// `Memory` if no memory is found.
+    pub fn push(&mut self, i: u32) -> Result<(), Memory>
         ensures { IfOk result (λ _. self.new ≡ self.old ++ i ∷ []) }
     {
         self.items.push(i)?;
         Ok(())
     }
 
-    /// The numbers in order.
-    pub(crate) fn as_slice(&self) -> &[u32]
+    /// Returns the numbers in order.
+    pub fn as_slice(&self) -> &[u32]
         ensures { result.now ≡ self.now }
     {
         self.items.as_slice()
@@ -146,12 +158,4 @@ fn part(items: &[u32], from: usize, to: usize) -> &[u32]
     ensures { result.now ≡ take (to - from) (drop from items.now) }
 {
     &items[from..to]
-}
-
-/// So many zeros.
-pub(crate) fn zeros(alloc: Global, n: usize) -> Result<Vec<u32>, Memory>
-    ensures { IfOk result (λ cells. cells.items ≡ replicate n 0) }
-{
-    let cells = Vec::from_elem(alloc, 0, n)?;
-    Ok(cells)
 }

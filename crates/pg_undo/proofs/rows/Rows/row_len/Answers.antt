@@ -1,6 +1,6 @@
 use Rattle.std.proofs.Common.{◌≡◌, ◌+◌, ◌-◌, ◌<◌, [], length, get_or, ap, ◌∙◌, sym, arith}
-use Rattle.pg_board.proofs.RowLemmas.{length-rows_of, rows_of-at, length-row_at}
-use Rattle.pg_board.proofs.rows.Rows.row_len.Goals as goal
+use Rattle.pg_undo.proofs.RowLemmas.{length-rows_of, rows_of-at, length-row_at}
+use Rattle.pg_undo.proofs.rows.Rows.row_len.Goals as goal
 
 pub len_of-requires : goal.len_of-requires
 len_of-requires c =
