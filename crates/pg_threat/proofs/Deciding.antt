@@ -1,19 +1,21 @@
 -- What the search says of the criterion by which a position is decided.
 use Rattle.std.specs.Prelude.{Option, Some, None}
 use Rattle.std.proofs.Common.{◌≡◌, ◌≢◌, ℕ, ◌<◌, true, false, inl, inr, arith, ne_eqb, sym}
-use Rattle.std.proofs.Common.{◌≤◌, List, subst}
+use Rattle.std.proofs.Common.{◌≤◌, ◌/◌, ◌∙◌, List, [], ◌∷◌, ap, get_or, length, subst, take}
+use Rattle.std.proofs.Common.{zero, suc}
 use Rattle.pg_threat.proofs.Common.{is_some, cases_Bool, and_from, and_left, and_right, Game}
 use Rattle.pg_threat.proofs.Common.{Position, may_attack, has_threat_line}
 use Rattle.pg_threat.proofs.Common.{after, is_free, is_over, other, passed, point_count, Side}
-use Rattle.pg_threat.proofs.Common.{AreDeeper, IsPosition, IsThreatLine, depth_of, turn-alternates}
+use Rattle.pg_threat.proofs.Common.{AreDeeper, ComesFirst, IsPosition, IsThreatLine, LeadsToLine}
+use Rattle.pg_threat.proofs.Common.{depth_of, turn-alternates}
 use Rattle.pg_game.specs.Decided.{attack_wins, greatest_depth}
 use Rattle.pg_game.proofs.ThreatSearch.{line-within, within-line}
 use Rattle.pg_threat.specs.declared.line.ThreatLine.{ThreatLine}
 use Rattle.pg_threat.specs.Search.{points_of_line}
-use Rattle.pg_threat.specs.Forced.{IsAnswer}
-use Rattle.pg_threat.proofs.Passing.{deeper-after}
+use Rattle.pg_threat.specs.Forced.{IsAnswer, IsAnswerLine}
+use Rattle.pg_threat.proofs.Passing.{deeper-after, line-passed}
 use Rattle.pg_threat.proofs.Serving.{line-after}
-use Rattle.pg_threat.specs.Serving.{IsApart}
+use Rattle.pg_threat.specs.Serving.{IsApart, IsBound}
 
 -- where the side to move may attack, it has a short threat line exactly where one was found
 pub attack_wins-found : (g : Game) (p : Position) (found : Option ThreatLine)
@@ -81,3 +83,45 @@ attack_wins-served g p v points position range free may goes_on off line few =
     let wins = and_from _ _ (subst (λ (s : Side). may_attack g.kind s ≡ true) next may)
     (within-line g greatest_depth q points few here) in
     (wins, here)
+
+-- what leads to a line has a point
+some-leads : (g : Game) (p : Position) (side : Side) (points : List ℕ)
+    → LeadsToLine g p side points
+    → 1 ≤ length points
+some-leads g p side [] leads = absurd leads
+some-leads g p side (v ∷ points) leads = omega arith
+
+-- the first of two lists begins with no greater point
+head-first : (len : ℕ) (xs : List ℕ) (w : ℕ) (others : List ℕ)
+    → 1 ≤ length (take len xs)
+    → ComesFirst (take len xs) (w ∷ others)
+    → get_or xs 0 0 ≤ w
+head-first zero xs w others some first = absurd (omega (arith, some))
+head-first (suc n) [] w others some first = absurd (omega (arith, some))
+head-first (suc n) (x ∷ xs) w others some first =
+    elim first [ inl less ↦ omega (arith, less) | inr same ↦ omega (arith, same.0) ]
+
+-- where it has one then, none comes before it after any move
+pub bound-after : (g : Game) (p : Position) (v depth : ℕ) (t : ThreatLine)
+    → IsPosition g p
+    → v < point_count g
+    → is_free p v ≡ true
+    → may_attack g.kind (other p.turn) ≡ true
+    → is_over g p ≡ false
+    → is_over g (after g p v) ≡ false
+    → IsAnswerLine g (passed p) (other p.turn) depth t
+    → IsBound g (after g p v) (other p.turn) t
+bound-after g p v depth t position range free may going goes_on found = record {
+  least = λ points leads. subst (λ n. n / 2 ≤ depth_of points) found.whole
+      (found.first.least points (before points leads));
+  first = λ w points leads deep.
+      head-first t.len t.points w points
+      (some-leads g (passed p) (other p.turn) (points_of_line t) found.first.line.leads)
+      (found.first.first (w ∷ points) (before (w ∷ points) leads)
+      (deep ∙ sym (ap (λ n. n / 2) found.whole)));
+}
+  where
+    before : (points : List ℕ)
+        → LeadsToLine g (after g p v) (other p.turn) points
+        → IsThreatLine g (passed p) (other p.turn) points
+    before = line-passed g p found.first.line.single position v range free may going goes_on

@@ -9,6 +9,7 @@ use Rattle.pg_threat.proofs.Common.{is_free, points_of, lines_of, point_count, h
 use Rattle.pg_threat.proofs.Common.{is_filled}
 use Rattle.pg_threat.proofs.Common.{after, passed, has_threat, may_attack, Forcing, Filling}
 use Rattle.pg_threat.proofs.Common.{LeadsToLine, IsAttacking, AreDeeper, IsPosition}
+use Rattle.pg_threat.proofs.Common.{IsThreatLine}
 use Rattle.pg_threat.proofs.Common.{IsPosition-after, list_any-one, other_other, free-of}
 use Rattle.pg_threat.proofs.Common.{points_of-mover, points_of-waiter, Near, filled_but}
 use Rattle.pg_threat.proofs.Common.{filled-with}
@@ -225,15 +226,14 @@ module _ (g : Game) (p : Position) (one : g.bias ≡ 1) (position : IsPosition g
           ∙ ap (λ (s : FinSet nat_cmp). insert s v) (sym (same-points p (other (other p.turn))));
     }
 
-    -- Where the turn passes, and the side that is then to move has no threat line of a depth, it
-    -- has none after a move of the other side: the move takes only a point from it.
-    pub deeper-after : (depth : ℕ)
-        → may_attack g.kind (other p.turn) ≡ true
+    -- what leads to a line after a move does so where the turn passes instead
+    pub line-passed : may_attack g.kind (other p.turn) ≡ true
         → is_over g p ≡ false
         → is_over g (after g p v) ≡ false
-        → AreDeeper g (passed p) (other p.turn) depth
-        → AreDeeper g (after g p v) (other p.turn) depth
-    deeper-after depth may going goes_on deeper points line = deeper points (record {
+        → (points : List ℕ)
+        → LeadsToLine g (after g p v) (other p.turn) points
+        → IsThreatLine g (passed p) (other p.turn) points
+    line-passed may going goes_on points leads = record {
       single = one;
       going = passed-going g p going;
       turn = refl;
@@ -245,5 +245,16 @@ module _ (g : Game) (p : Position) (one : g.bias ≡ 1) (position : IsPosition g
         position = passed-position;
         turn = refl;
         unfilled = unfilled-going g (other p.turn) may (passed p) (passed-going g p going);
-      }) more-after line.leads;
-    })
+      }) more-after leads;
+    }
+
+    -- Where the turn passes, and the side that is then to move has no threat line of a depth, it
+    -- has none after a move of the other side: the move takes only a point from it.
+    pub deeper-after : (depth : ℕ)
+        → may_attack g.kind (other p.turn) ≡ true
+        → is_over g p ≡ false
+        → is_over g (after g p v) ≡ false
+        → AreDeeper g (passed p) (other p.turn) depth
+        → AreDeeper g (after g p v) (other p.turn) depth
+    deeper-after depth may going goes_on deeper points line =
+        deeper points (line-passed may going goes_on points line.leads)

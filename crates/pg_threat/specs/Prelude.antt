@@ -20,7 +20,7 @@ unfoldable pub use Rattle.pg_game.specs.Threat.{has_threat_line}
 pub use Rattle.pg_game.specs.declared.game.Game.{Game}
 pub use Rattle.pg_game.specs.declared.position.Position.{Position}
 pub use Rattle.std.specs.FinSet.{FinSet, contains, contains-empty, empty, insert, remove}
-pub use Rattle.std.specs.List.{Contains, count_by, find, list_all, list_any, range_with_len}
+pub use Rattle.std.specs.List.{All, Contains, count_by, find, list_all, list_any, range_with_len}
 pub use Rattle.std.specs.List.{slice_get}
 pub use Rattle.std.specs.Option.{is_some}
 pub use Rattle.std.specs.Ordering.{nat_cmp}

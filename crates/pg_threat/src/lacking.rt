@@ -1,13 +1,14 @@
 //! The free points of lines of which a side lacks few points.
 ghost use Rattle.std.specs.Prelude.{◌≡◌, ◌<◌, ◌≤◌, ◌+◌, ◌||◌, ℕ, List, true, false, length};
 ghost use Rattle.pg_threat.specs.Prelude.{Contains, contains, insert, other, MakerMaker, lines_of};
-ghost use Rattle.pg_threat.specs.Prelude.{point_count, IsPosition, is_on, line_at};
+ghost use Rattle.pg_threat.specs.Prelude.{point_count, All, IsPosition, is_on, line_at};
 ghost use Rattle.pg_threat.specs.Lacking.{is_gained, is_open_on, is_lacking, is_partner, lacks};
 ghost use Rattle.pg_threat.specs.Lacking.{IsLackedTwice};
 ghost use Rattle.pg_threat.specs.Lacking.{own_count, IsIdle, IsOutOfReach};
 
 use pg_base::{Kind, MAX_MEMBERS, PointSet, Side};
 use pg_board::Board;
+use pg_game::MAX_POINTS;
 
 /// Points that a side lacks.
 #[derive(Clone, Copy, Debug)]
@@ -34,6 +35,15 @@ impl Lacked {
     }
 }
 
+/// The points of the line, ascending.
+fn line_points<'a>(b: &Board<'a>, line: u32) -> &'a [u16]
+    requires { line < length (lines_of b.now.game) }
+    ensures points { result.now ≡ line_at b.now.game line }
+    ensures range { All (λ v. v < MAX_POINTS) result.now }
+{
+    b.game().lines()[line as usize].as_slice()
+}
+
 /// Puts the free points of the line to the others.
 fn put_open(b: &Board<'_>, line: u32, lacked: &mut Lacked)
     requires { line < length (lines_of b.now.game) }
@@ -45,8 +55,8 @@ fn put_open(b: &Board<'_>, line: u32, lacked: &mut Lacked)
         → is_open_on b.now.stand.position (line_at b.now.game line) v ≡ true
         → contains lacked.new.twice v ≡ true }
 {
-    for i in 0..b.line_len(line) {
-        let v = b.line_point(line, i);
+    for v in line_points(b, line) {
+        let v = *v;
         if b.is_free(v) {
             lacked.put(v);
         }
@@ -141,12 +151,7 @@ pub(crate) fn holds(b: &Board<'_>, line: u32, u: u16) -> bool
     requires { line < length (lines_of b.now.game) }
     ensures { result ≡ is_on u (line_at b.now.game line) }
 {
-    for i in 0..b.line_len(line) {
-        if b.line_point(line, i) == u {
-            return true;
-        }
-    }
-    false
+    line_points(b, line).iter().any(|v| *v == u)
 }
 
 /// Whether the other side hasn't touched the line, the side lacks three points of it, and it misses

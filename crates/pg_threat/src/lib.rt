@@ -11,5 +11,5 @@ mod search;
 mod served;
 
 pub use line::ThreatLine;
-pub use search::{forced, forced_passed};
+pub use search::{forced, forced_after, forced_passed};
 pub use served::is_apart;

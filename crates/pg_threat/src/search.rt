@@ -1,6 +1,6 @@
 //! The search for a threat line.
 ghost use Rattle.std.specs.Prelude.{◌≡◌, ◌≤◌, ◌<◌, ◌↔◌, ℕ, true, false, length, ◌==◌, ◌&&◌};
-ghost use Rattle.std.specs.Prelude.{if◌then◌else◌};
+ghost use Rattle.std.specs.Prelude.{if◌then◌else◌, ◌/◌, get_or};
 ghost use Rattle.pg_threat.specs.Prelude.{contains, after, is_over, lines_of, IsPosition, other};
 ghost use Rattle.pg_threat.specs.Prelude.{passed};
 ghost use Rattle.pg_threat.specs.Prelude.{may_attack, IsAttack, LeadsToLine, IsAttacking};
@@ -9,6 +9,7 @@ ghost use Rattle.pg_threat.specs.Forced.{IsAnswer};
 ghost use Rattle.pg_threat.specs.Lacking.{is_lacking, is_partner, IsLackedTwice};
 ghost use Rattle.pg_threat.specs.Search.{Begins, IsAnswering, IsFound, IsTried, Replied};
 ghost use Rattle.pg_threat.specs.Search.{SearchesAt};
+ghost use Rattle.pg_threat.specs.Serving.{IsBound};
 
 use crate::lacking::{gains, is_far, is_idle, lacking, partners};
 use crate::line::ThreatLine;
@@ -31,6 +32,31 @@ impl Attacks {
     {
         if depth == 1 { &self.forks } else { &self.all }
     }
+
+    /// Those that may begin a list of that depth, where no list comes before the line.
+    fn of_depth_after(&self, depth: u8, line: &ThreatLine) -> PointSet
+        requires { (v : ℕ) → contains self.now.forks v ≡ true → contains self.now.all v ≡ true }
+        ensures all { (v : ℕ) → contains result v ≡ true → contains self.now.all v ≡ true }
+        ensures late { (v : ℕ)
+            → contains (if depth == 1 then self.now.forks else self.now.all) v ≡ true
+            → (depth ≡ line.now.len / 2 → get_or line.now.points 0 0 ≤ v)
+            → contains result v ≡ true }
+    {
+        let attacks = self.of_depth(depth);
+        if depth == line.len / 2 {
+            return from_point(attacks, line.points[0]);
+        }
+        *attacks
+    }
+}
+
+/// The points of the set from one on.
+fn from_point(points: &PointSet, first: u16) -> PointSet
+    ensures points { (v : ℕ) → contains result v ≡ true → contains points.now v ≡ true }
+    ensures late { (v : ℕ) → contains points.now v ≡ true → first ≤ v
+        → contains result v ≡ true }
+{
+    points.without(&PointSet::all_below(first.min(MAX_MEMBERS)))
 }
 
 /// What is in both sets.
@@ -220,8 +246,36 @@ pub fn forced(b: &mut Board<'_>, side: Side, depth: u8) -> Option<ThreatLine>
     None
 }
 
-/// The same for the other side, where the turn passes to it. The board is afterwards as before; it
-/// takes no memory.
+/// Like [`forced`] with at most three replies, where a line is known before which no threat line
+/// comes: none has fewer replies, and none of as many begins with a smaller point.
+///
+/// Depths are tried from that line's on, and of this depth the attacks from its first point on. The
+/// board is afterwards as before; it takes no memory.
+pub fn forced_after(b: &mut Board<'_>, side: Side, line: &ThreatLine) -> Option<ThreatLine>
+    requires turn { b.old.stand.position.turn ≡ side }
+    requires going { is_over b.old.game b.old.stand.position ≡ false }
+    requires single { b.old.game.bias ≡ 1 }
+    requires may { may_attack b.old.game.kind side ≡ true }
+    requires bound { IsBound b.old.game b.old.stand.position side line.now }
+    ensures answer { IsAnswer b.old.game b.old.stand.position side 3 result }
+    ensures kept { b.new ≡ b.old }
+{
+    let first = line.len / 2;
+    if first == 0 {
+        return forced(b, side, 3);
+    }
+    let attacks = attacks_at(b, side);
+    for depth in first..4 {
+        let tried = attacks.of_depth_after(depth, line);
+        if let Some(found) = first_of_depth(b, side, &tried, depth) {
+            return Some(found);
+        }
+    }
+    None
+}
+
+/// What [`forced`] finds for the other side, where the turn passes to it. The board is afterwards
+/// as before; it takes no memory.
 ///
 /// A move takes a point from the other side's lines, and gives it none. So where None comes, that
 /// side has no threat line of at most that depth after any move either.
