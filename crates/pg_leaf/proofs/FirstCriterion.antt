@@ -19,6 +19,8 @@ use Rattle.pg_game.specs.Value.{reaches}
 use Rattle.pg_game.specs.Potential.{PotentialHolds, potential_holds}
 use Rattle.pg_game.specs.Avoider.{AvoiderHolds, avoider_holds}
 use Rattle.pg_game.proofs.ThreatLaws.{near-from, near-range}
+use Rattle.pg_leaf.specs.Ahead.{IsKnownAt}
+use Rattle.pg_leaf.specs.declared.ahead.Next.{Next}
 use Rattle.pg_leaf.specs.Leaf.{IsLeaf, IsAttackLine}
 
 -- ---- the order of the criteria, as tests
@@ -157,6 +159,14 @@ pub line-at : (points : List ℕ) (g h : Game) (p q : Position)
     → IsAttackLine g p points
 line-at points g h p q games positions line = subst (λ (x : Position). IsAttackLine g x points)
     positions (subst (λ (x : Game). IsAttackLine x q points) games line)
+
+pub known-at : (n : Next) (g h : Game) (p q : Position)
+    → h ≡ g
+    → q ≡ p
+    → IsKnownAt g p n
+    → IsKnownAt h q n
+known-at n g h p q games positions known = subst (λ (x : Game). IsKnownAt x q n) (sym games)
+    (subst (λ (x : Position). IsKnownAt g x n) (sym positions) known)
 
 -- ---- the end
 

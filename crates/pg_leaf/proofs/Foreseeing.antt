@@ -26,6 +26,7 @@ use Rattle.pg_base.specs.Side.{other, is_same_side}
 use Rattle.pg_board.specs.Board.{degree}
 use Rattle.pg_board.proofs.Digits.{count-all}
 use Rattle.pg_game.specs.Avoider.{avoider_holds, x_takes_last}
+use Rattle.pg_game.specs.Decided.{greatest_depth}
 use Rattle.pg_game.specs.Game.{all_touched, can_join, is_full, is_empty, is_over, is_over_by}
 use Rattle.pg_game.specs.Potential.{IsBaseOf, full_weight, greatest_length, greatest_weight, is_on}
 use Rattle.pg_game.specs.Potential.{line_weight, point_weight, potential_holds, times_counted}
@@ -42,14 +43,16 @@ use Rattle.pg_game.proofs.WeightBounds.{IsBaseOf-bias, IsBaseOf-two}
 use Rattle.pg_game.proofs.WeightBounds.{bias-le, total-few}
 use Rattle.pg_game.specs.Threat.{is_race}
 use Rattle.pg_threat.proofs.Deciding.{attack_wins-biased, attack_wins-not, attack_wins-passed}
-use Rattle.pg_threat.proofs.Deciding.{attack_wins-served}
+use Rattle.pg_threat.proofs.Deciding.{attack_wins-served, bound-after}
 use Rattle.pg_threat.specs.Search.{points_of_line}
-use Rattle.pg_threat.specs.Serving.{IsApart}
+use Rattle.pg_threat.specs.Serving.{IsApart, IsBound}
 use Rattle.pg_threat.specs.declared.line.ThreatLine.{ThreatLine}
 use Rattle.pg_threat.proofs.LineCounts.{none-lacking, one-lacked}
-use Rattle.pg_leaf.specs.Ahead.{base_for, is_avoiding, IsAhead, IsMoveOf, IsNext, IsWeighed}
+use Rattle.pg_leaf.specs.Ahead.{base_for, is_avoiding, IsAhead, IsKnownAt, IsMoveOf, IsNext}
+use Rattle.pg_leaf.specs.Ahead.{IsWeighed}
 use Rattle.pg_leaf.specs.declared.ahead.Ahead.{Ahead}
-use Rattle.pg_leaf.specs.declared.ahead.Next.TheVariants.{Quiet, Line}
+use Rattle.pg_leaf.specs.declared.ahead.Next.{Next}
+use Rattle.pg_leaf.specs.declared.ahead.Next.TheVariants.{Unknown, Quiet, Line}
 use Rattle.pg_leaf.proofs.ShortCounts.{few-lines, none-counted}
 
 -- ---- sides
@@ -585,6 +588,20 @@ module _ (b : View) (q : Position) (v : ℕ) (m : IsMoveOf b q v) where
       (attack_wins-served g p v (points_of_line line) m.position m.range m.free known.0.may
       (subst (λ (x : Position). is_over g x ≡ false) m.leads going) apart known.1.first.line
       known.1.few)
+
+  -- what is known of the next side's threat lines where the turn passes is so after the move
+  pub known-after : (n : Next) → IsNext b n → IsKnownAt b.game q n
+  known-after Unknown known = known
+  known-after Quiet known = no-attack known
+  known-after (Line line) known = λ going.
+      let turn = sym (next-turn known.0.single) in record {
+        single = known.0.single;
+        may = subst (λ (s : Side). may_attack g.kind s ≡ true) turn known.0.may;
+        bound = subst (λ (s : Side). IsBound g q s line) turn
+            (subst (λ (x : Position). IsBound g x (other p.turn) line) (sym m.leads)
+            (bound-after g p v greatest_depth line m.position m.range m.free known.0.may m.going
+            (subst (λ (x : Position). is_over g x ≡ false) m.leads going) known.1));
+      }
 
   -- ---- pairs
 

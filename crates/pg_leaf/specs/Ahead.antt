@@ -2,6 +2,7 @@
 use Rattle.std.specs.Prelude.{◌≡◌, ◌≢◌, ℕ, ◌+◌, ◌<◌, Bool, true, false, Option, Some, None}
 use Rattle.pg_leaf.specs.Prelude.{AvoiderEnforcer, Game, IsPosition, MakerBreaker, MakerMaker}
 use Rattle.pg_leaf.specs.Prelude.{Position, Score, Switching, Threat, View, after, answer_for}
+use Rattle.pg_leaf.specs.Prelude.{attack_wins}
 use Rattle.pg_leaf.specs.Prelude.{breaker_of, decided, defender, is_free, is_over, may_attack}
 use Rattle.pg_leaf.specs.Prelude.{point_count, points_of}
 use Rattle.pg_base.specs.Side.{other}
@@ -17,6 +18,7 @@ use Rattle.pg_leaf.specs.declared.ahead.Told.{Told}
 use Rattle.pg_leaf.specs.declared.ahead.Told.TheVariants.{Unsure, Open, Decided, Attack}
 use Rattle.pg_threat.specs.Forced.{IsAnswer}
 use Rattle.pg_threat.specs.Search.{points_of_line}
+use Rattle.pg_threat.specs.Serving.{IsBound}
 use Rattle.pg_threat.specs.declared.line.ThreatLine.{ThreatLine}
 
 -- the base of the weights by which the potential of a game of the kind is counted
@@ -82,6 +84,27 @@ pub record IsAhead (t : Score) (b : View) (a : Ahead) : Type 0 where
   pub defends : a.defender ≡ defender b.game.kind t
   pub weighed : IsWeighed b a
   pub next : IsNext b a.next
+
+-- ---- what is known at a position
+
+-- Each side claims one point a turn, the side to move may attack, and none of its threat lines
+-- comes before the line.
+pub record IsKnownLine (g : Game) (p : Position) (line : ThreatLine) : Type 0 where
+  pub single : g.bias ≡ 1
+  pub may : may_attack g.kind p.turn ≡ true
+  pub bound : IsBound g p p.turn line
+
+-- what is known of the threat lines of the side to move is so, if the game isn't over
+abbrev pub IsKnownAt : Game → Position → Next → Type 0
+IsKnownAt g p Unknown = Unit {0}
+IsKnownAt g p Quiet = is_over g p ≡ false → attack_wins g p ≡ false
+IsKnownAt g p (Line line) = is_over g p ≡ false → IsKnownLine g p line
+
+-- the board stands at the position of the game, and what is known there is so
+pub record IsForetold (g : Game) (p : Position) (b : View) (next : Next) : Type 0 where
+  pub game : b.game ≡ g
+  pub position : b.stand.position ≡ p
+  pub known : IsKnownAt g p next
 
 -- what is told of a position is so
 abbrev pub IsTold : Game → Score → Position → Told → Type 0

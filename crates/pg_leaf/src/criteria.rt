@@ -3,17 +3,19 @@ ghost use Rattle.std.specs.Prelude.{◌≡◌, ◌<◌, Some, IfOk, IfSome, true
 ghost use Rattle.std.specs.Prelude.{is_some, None};
 ghost use Rattle.pg_leaf.specs.Prelude.{lines_of, is_over, decided, answer_for, attack_wins};
 ghost use Rattle.pg_leaf.specs.Prelude.{Threat, pairs_exist};
+ghost use Rattle.pg_leaf.specs.Ahead.{IsForetold, IsKnownAt, IsKnownLine};
 ghost use Rattle.pg_leaf.specs.At.{IsAskedAt, IsAt};
 ghost use Rattle.pg_match.specs.Cache.{Fits};
 ghost use Rattle.pg_threat.specs.Search.{points_of_line};
 ghost use Rattle.pg_leaf.specs.Leaf.{IsLeaf, IsAttackLine};
 
+use crate::ahead::Next;
 use pg_base::{Memory, Pairs, Points, Score, Side};
 use pg_board::Board;
 use pg_cert::Body;
 use pg_game::{Game, Position, breaker_of, defender, may_attack};
 use pg_match::{PairCache, pairs_leaf};
-use pg_threat::{ThreatLine, forced};
+use pg_threat::{ThreatLine, forced, forced_after};
 use std::alloc::Global;
 
 /// The answer that a side's criterion gives: yes for X.
@@ -75,6 +77,42 @@ fn attack(alloc: Global, b: &mut Board<'_>) -> Result<Option<Vec<u16>>, Memory>
     }
 }
 
+/// Like [`attack`], where a line is known before which none of its threat lines comes.
+fn attack_after(
+    alloc: Global,
+    b: &mut Board<'_>,
+    line: &ThreatLine,
+) -> Result<Option<Vec<u16>>, Memory>
+    requires going { is_over b.old.game b.old.stand.position ≡ false }
+    requires known { IsKnownLine b.old.game b.old.stand.position line.now }
+    ensures kept { b.new ≡ b.old }
+    ensures found { IfOk result (λ r. is_some r ≡ attack_wins b.old.game b.old.stand.position) }
+    ensures line { IfOk result
+        (λ r. IfSome r (λ points. IsAttackLine b.old.game b.old.stand.position points.items)) }
+{
+    let turn = b.turn();
+    match forced_after(b, turn, line) {
+        Some(found) => Ok(Some(points_of(alloc, &found)?)),
+        None => Ok(None),
+    }
+}
+
+/// Like [`attack`], where `next` is known of its threat lines.
+fn attack_with(alloc: Global, b: &mut Board<'_>, next: &Next) -> Result<Option<Vec<u16>>, Memory>
+    requires going { is_over b.old.game b.old.stand.position ≡ false }
+    requires known { IsKnownAt b.old.game b.old.stand.position next.now }
+    ensures kept { b.new ≡ b.old }
+    ensures found { IfOk result (λ r. is_some r ≡ attack_wins b.old.game b.old.stand.position) }
+    ensures line { IfOk result
+        (λ r. IfSome r (λ points. IsAttackLine b.old.game b.old.stand.position points.items)) }
+{
+    match next {
+        Next::Unknown => attack(alloc, b),
+        Next::Quiet => Ok(None),
+        Next::Line(line) => attack_after(alloc, b, line),
+    }
+}
+
 /// Whether the board's counts show that not each of the lines meant can have two free points of its
 /// own: there are too many lines for the free points, or one line has fewer than two.
 fn is_short(b: &Board<'_>, side: Side) -> bool
@@ -132,6 +170,32 @@ pub fn leaf(
     ensures decided { IfOk result (λ r. option_map (λ k. k.0) r ≡ decided g.now question p.now) }
     ensures body { IfOk result (λ r. IfSome r (λ k. IsLeaf g.now question p.now k.0 k.1)) }
 {
+    leaf_with(alloc, g, question, p, b, cache, &Next::Unknown)
+}
+
+/// Like [`leaf`], where `next` is known of the threat lines of the side to move: that it has none,
+/// or that none comes before a line.
+///
+/// # Errors
+///
+/// `Memory` where no memory is found, for a threat line's points or for pairs.
+pub fn leaf_with(
+    alloc: Global,
+    g: &Game,
+    question: Score,
+    p: &Position,
+    b: &mut Board<'_>,
+    cache: &mut PairCache,
+    next: &Next,
+) -> Result<Option<(bool, Body)>, Memory>
+    requires asked { IsAskedAt g.now question p.now }
+    requires stands { IsForetold g.now p.now b.old next.now }
+    requires fits { Fits cache.old (lines_of g.now) }
+    ensures kept { b.new ≡ b.old }
+    ensures fits { Fits cache.new (lines_of g.now) }
+    ensures decided { IfOk result (λ r. option_map (λ k. k.0) r ≡ decided g.now question p.now) }
+    ensures body { IfOk result (λ r. IfSome r (λ k. IsLeaf g.now question p.now k.0 k.1)) }
+{
     if let Some(answer) = b.by_end(question) {
         return Ok(Some((answer, Body::Over)));
     }
@@ -139,7 +203,7 @@ pub fn leaf(
     if b.defends(question) {
         return Ok(Some((answer_for(side), Body::Potential)));
     }
-    if let Some(points) = attack(alloc, b)? {
+    if let Some(points) = attack_with(alloc, b, next)? {
         return Ok(Some((answer_for(p.turn), Body::Threat(Points::from_vec(points)))));
     }
     if is_short(b, side) {

@@ -13,7 +13,7 @@ mod pruning;
 mod small_set;
 
 pub use ahead::{Ahead, Next, Told};
-pub use criteria::{attack_leaf, leaf};
+pub use criteria::{attack_leaf, leaf, leaf_with};
 pub use kept::KeptNode;
 pub use key::Key;
 pub use order::order_of;
