@@ -1,5 +1,6 @@
 -- The walk from the root comes to a place that can be expanded.
-use Rattle.std.proofs.Common.{◌≡◌, ℕ, zero, suc, ◌+◌, ◌<◌, ◌≤◌, Option, Some, None, List, [], ◌∷◌}
+use Rattle.std.proofs.Common.{◌≡◌, ◌≢◌, ℕ, zero, suc, ◌+◌, ◌<◌, ◌≤◌, Option, Some, None, List, []}
+use Rattle.std.proofs.Common.{◌∷◌}
 use Rattle.std.proofs.Common.{◌++◌, take, length, get_or, refl, sym, ap, ◌∙◌, subst, inl, inr}
 use Rattle.std.proofs.Common.{arith, slice_get}
 use Rattle.pg_pns.proofs.Common.{take_more, Contains-get_or, slice_get_within, slice_get-get_or}
@@ -9,7 +10,8 @@ use Rattle.pg_pns.proofs.Common.{length-free_points-after, in_free_points, some�
 use Rattle.pg_pns.specs.declared.known.Answered.{Answered}
 use Rattle.pg_pns.specs.declared.table.Table.{Table}
 use Rattle.pg_pns.specs.Descent.{IsOpenMove, HasOpen, IsOnWay, IsStep, IsAtStart, GoesDown}
-use Rattle.pg_pns.specs.Descent.{first_stand, free_at}
+use Rattle.pg_pns.specs.Descent.{IsFromStart, KeepsFirst, first_stand, free_at}
+use Rattle.pg_pns.specs.Prelude.{Switching}
 use Rattle.pg_pns.specs.Known.{answer_at}
 use Rattle.pg_pns.specs.Settles.{by_answers}
 use Rattle.pg_pns.specs.Search.{IsSearch, IsNext}
@@ -131,6 +133,14 @@ module _ (g : Game) (t : Score) (list : List Position) (s : Table)
         leads = to;
       }
 
+  -- the same with the position that is read at the place
+  pub way-on : (k : ℕ) (m : ℕ × ℕ)
+      → IsOnWay s k
+      → IsOpenMove (get_or s.moves.items k []) s.answers.items m
+      → IsStep g s k (get_or s.positions.items k (start g)) m
+  way-on k m on opened = way-down k (get_or s.positions.items k (start g)) m
+      (slice_get-get_or s.positions.items k (start g) (way-range k on)) on opened
+
   ends : (k : ℕ) (ms : List (ℕ × ℕ))
       → IsOnWay s k
       → slice_get s.moves.items k ≡ Some ms
@@ -198,17 +208,33 @@ goes-down s first now next k m down step same moved push = record {
   first_is = first-played now next push ∙ down.first_is;
 }
 
--- the board that went down, met all moves and went up stands where it stood
-pub back-at-start : (g : Game) (old down up : View)
-    → IsAtStart g old
-    → down.game ≡ old.game
-    → first_stand down ≡ old.stand
-    → up.game ≡ down.game
-    → up.stand ≡ first_stand down
-    → up.earlier ≡ []
-    → IsAtStart g up
-back-at-start g old down up at same first games stands none = record {
-  game = games ∙ same ∙ at.game;
-  position = ap (λ (t : Stand). t.position) (stands ∙ first) ∙ at.position;
-  earlier = none;
+-- plays and what is taken back leave what was below all plays
+pub keeps-played : (old now next : View)
+    → KeepsFirst old now
+    → next.game ≡ now.game
+    → next.earlier ≡ now.earlier ++ now.stand ∷ []
+    → KeepsFirst old next
+keeps-played old now next keeps same push = record {
+  game = same ∙ keeps.game;
+  first_is = first-played now next push ∙ keeps.first_is;
+}
+
+pub keeps-kept : (old now next : View)
+    → KeepsFirst old now
+    → KeepsFirst now next
+    → KeepsFirst old next
+keeps-kept old now next first second = record {
+  game = second.game ∙ first.game;
+  first_is = second.first_is ∙ first.first_is;
+}
+
+-- a board on which no play stands comes from where it is
+pub from-start : (g : Game) (b : View)
+    → IsAtStart g b
+    → g.kind ≢ Switching
+    → IsFromStart g b
+from-start g b at lines = record {
+  game = at.game;
+  lines = lines;
+  first = ap (λ (ts : List Stand). (get_or ts 0 b.stand).position) at.earlier ∙ at.position;
 }

@@ -7,7 +7,8 @@ use Rattle.pg_pns.specs.Prelude.{Cache, IsQuestion, Switching}
 use Rattle.pg_pns.specs.declared.table.Expansion.{Expansion}
 use Rattle.pg_pns.specs.Met.{IsLeafOf}
 use Rattle.pg_pns.specs.Reading.{IsExpansion, IsMoveAt}
-use Rattle.pg_leaf.specs.Ahead.{IsAhead, IsMoveOf, IsTold}
+use Rattle.pg_leaf.specs.Ahead.{IsAhead, IsKnownAt, IsMoveOf, IsTold}
+use Rattle.pg_leaf.proofs.Foreseeing.{known-after}
 use Rattle.pg_leaf.specs.declared.ahead.Told.{Told}
 use Rattle.pg_leaf.specs.declared.ahead.Told.TheVariants.{Attack, Open, Decided}
 use Rattle.pg_threat.specs.Search.{points_of_line}
@@ -34,6 +35,15 @@ module _ (g : Game) (t : Score) (e : Expansion) (b : View) (cache : Cache)
         free = subst (λ (r : Position). is_free r v ≡ true) (sym places) moves.free;
         leads = leads ∙ sym (λ i. after (games i) (places i) v);
       }
+
+  -- what is known of the next side's threat lines is so after the move
+  pub known-move : (v : ℕ) (q : Position)
+      → IsMoveAt g e.position v
+      → q ≡ after g e.position v
+      → IsKnownAt g q e.ahead.next
+  known-move v q moves leads = subst (λ (h : Game). IsKnownAt h q e.ahead.next)
+      x.reads.stands.game
+      (known-after b q v (expansion-move v q moves leads) e.ahead.next x.ahead.next)
 
   -- what is told is so in the game that is asked about
   pub told-at : (q : Position) (told : Told)

@@ -1,8 +1,8 @@
 -- The walk from the root to the position that is expanded next, on the board too.
-use Rattle.std.specs.Prelude.{◌≡◌, ◌<◌, ℕ, true, List, [], get_or, length, Option, Some, None}
+use Rattle.std.specs.Prelude.{◌≡◌, ◌≢◌, ◌<◌, ℕ, true, List, [], get_or, length, Option, Some, None}
 use Rattle.std.specs.Prelude.{slice_get, ◌⊎◌}
 use Rattle.pg_pns.specs.Prelude.{Contains, Game, Position, is_free, free_points, point_count, start}
-use Rattle.pg_pns.specs.Prelude.{after, Stand, View}
+use Rattle.pg_pns.specs.Prelude.{after, Stand, Switching, View}
 use Rattle.pg_pns.specs.declared.known.Answered.{Answered}
 use Rattle.pg_pns.specs.declared.table.Table.{Table}
 use Rattle.pg_pns.specs.Known.{answer_at}
@@ -65,7 +65,13 @@ pub record GoesDown (s : Table) (first now : View) (k : ℕ) : Type 0 where
   pub stands : slice_get s.positions.items k ≡ Some now.stand.position
   pub first_is : first_stand now ≡ first.stand
 
--- on the way up
-pub record GoesUp (first now : View) : Type 0 where
-  pub game : now.game ≡ first.game
-  pub first_is : first_stand now ≡ first_stand first
+-- the game is the same, and so is how the board stood before all plays
+pub record KeepsFirst (old new : View) : Type 0 where
+  pub game : new.game ≡ old.game
+  pub first_is : first_stand new ≡ first_stand old
+
+-- below all plays the board of a game on lines stands at the game's position
+pub record IsFromStart (g : Game) (b : View) : Type 0 where
+  pub game : b.game ≡ g
+  pub lines : g.kind ≢ Switching
+  pub first : (first_stand b).position ≡ start g

@@ -6,7 +6,7 @@ use Rattle.pg_pns.specs.Prelude.{is_over, point_count, start}
 use Rattle.pg_leaf.specs.Ahead.{IsAhead}
 use Rattle.pg_pns.specs.declared.table.Expansion.{Expansion}
 use Rattle.pg_pns.specs.declared.limits.TheConstants.{MAX_EXPANDED_MOVES}
-use Rattle.pg_pns.specs.Descent.{IsAtStart}
+use Rattle.pg_pns.specs.Descent.{IsAtStart, IsFromStart}
 
 -- the game is on lines, and the question is one for its kind
 pub record IsAskedOf (g : Game) (t : Score) : Type 0 where
@@ -31,6 +31,12 @@ pub record IsReadAt (g : Game) (t : Score) (p : Position) (b : View) (cache : Ca
 pub record IsReadAtStart (g : Game) (t : Score) (b : View) (cache : Cache) : Type 0 where
   pub asked : IsAskedOf g t
   pub starts : IsAtStart g b
+  pub fits : Fits cache (lines_of g)
+
+-- the same where plays may stand on the board
+pub record IsReadFromStart (g : Game) (t : Score) (b : View) (cache : Cache) : Type 0 where
+  pub asked : IsAskedOf g t
+  pub starts : IsFromStart g b
   pub fits : Fits cache (lines_of g)
 
 -- the board stands as before, and the cache has answers for the game's lines

@@ -6,17 +6,17 @@ ghost use Rattle.pg_pns.specs.Prelude.{Position, start, free_points, lines_of, F
 ghost use Rattle.pg_pns.specs.Prelude.{IsTable, keys_of, Contains, MAX_CLAIM_NODES};
 ghost use Rattle.pg_game.specs.Decided.{claimer as claimer_of, claimed_goal as claimed_by};
 ghost use Rattle.pg_pns.specs.Found.{IsAnswer};
-ghost use Rattle.pg_pns.specs.Descent.{IsAtStart};
+ghost use Rattle.pg_pns.specs.Descent.{IsFromStart};
 ghost use Rattle.pg_pns.specs.Known.{answer_at};
 ghost use Rattle.pg_pns.specs.Reading.{IsAskedOf, IsExpansion, IsKept, IsMoveAt, IsReadAt};
-ghost use Rattle.pg_pns.specs.Reading.{IsReadAtStart};
+ghost use Rattle.pg_pns.specs.Reading.{IsReadAtStart, IsReadFromStart};
 ghost use Rattle.pg_pns.specs.Expanded.{IsListed};
 ghost use Rattle.pg_pns.specs.Search.{IsSearch, CanGoOn, CanGrow, GoesOn, IsGrowing};
 ghost use Rattle.pg_pns.specs.Search.{IsRootFound};
 ghost use Rattle.pg_pns.specs.declared.limits.TheConstants.{MAX_EXPANDED_MOVES};
 
 use crate::asked::Asked;
-use crate::descent::{go_down, go_up};
+use crate::descent::go_down;
 use crate::guide::Guide;
 use crate::known::Answered;
 use crate::lists::{Moves, Places};
@@ -137,7 +137,7 @@ fn order_at(alloc: Global, table: &Table, board: &Board<'_>, k: u32) -> Result<V
     }
 }
 
-/// Expands one position more. The board stands at the game's position before and after.
+/// Expands one position more. The board comes from the game's position before and after.
 fn step(
     alloc: Global,
     asked: Asked<'_>,
@@ -147,12 +147,12 @@ fn step(
     table: &mut Table,
     guide: &mut Guide,
 ) -> Result<(), Memory>
-    requires reads { IsReadAtStart asked.game.now asked.question board.old cache.old }
+    requires reads { IsReadFromStart asked.game.now asked.question board.old cache.old }
     requires goes { CanGoOn asked.game.now asked.question (keys_of work.old.entries) table.old }
     ensures fits { Fits cache.new (lines_of asked.entry.game.now) }
     ensures rules { IsTable asked.entry.game.now asked.entry.question (keys_of work.new.entries) }
     ensures more { length (keys_of work.new.entries) ≤ length (keys_of work.old.entries) + 1 }
-    ensures starts { OnOk result (IsAtStart asked.entry.game.now board.new) }
+    ensures starts { OnOk result (IsFromStart asked.entry.game.now board.new) }
     ensures goes { OnOk result
         (GoesOn asked.entry.game.now asked.entry.question (length (keys_of work.old.entries) + 1)
         (keys_of work.new.entries) table.new) }
@@ -162,7 +162,6 @@ fn step(
     keep(work, *p, k)?;
     expand(alloc, asked, k, board, cache, table)?;
     let order = order_at(alloc, table, board, k)?;
-    go_up(board);
     settle_from(alloc, k, table)?;
     guide.update(alloc, table, k, order, asked.game.points())?;
     Ok(())
@@ -217,7 +216,7 @@ fn find_answer(
     cache: &mut PairCache,
     table: &mut Table,
 ) -> Result<Option<Answered>, Memory>
-    requires reads { IsReadAtStart asked.game.now asked.question board.old cache.old }
+    requires reads { IsReadFromStart asked.game.now asked.question board.old cache.old }
     requires few { budget * length (free_points asked.game.now (start asked.game.now))
         ≤ MAX_EXPANDED_MOVES }
     requires empty { (keys_of expanded.old.entries) ≡ [] }

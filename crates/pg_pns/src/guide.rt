@@ -7,16 +7,21 @@ ghost use Rattle.pg_pns.specs.Known.{answer_at};
 use crate::known::Answered;
 use crate::numbers::{Numbers, fresh_numbers, numbers_at};
 use crate::table::Table;
+use crate::way::Way;
 use pg_base::{Memory, Side};
 use std::alloc::Global;
 
 /// The numbers of the positions met, and the orders in which the moves of those that are expanded
-/// are gone through, all by place.
+/// are gone through, all by place; and the way to the position that was expanded last.
 #[derive(Debug, Drop)]
 pub(crate) struct Guide {
     numbers: Vec<Numbers>,
     /// An order has the places of the moves in the list of moves.
     orders: Vec<Vec<u16>>,
+    /// The places that an update has gone through; its memory is used again by the next one.
+    due: Vec<u32>,
+    /// The plays on the board, as far as they were made for that position.
+    pub(crate) way: Way,
 }
 
 /// Whether the place has no answer, and this number for the side.
@@ -91,24 +96,34 @@ fn renumber_at(table: &Table, place: u32, numbers: &mut [Numbers]) -> bool {
     true
 }
 
-/// Brings the numbers at the places up to date, and gives the places above those whose numbers
-/// changed.
-fn renumber_all(
-    alloc: Global,
+/// The place at an index, if there is one.
+fn place_at(due: &[u32], i: usize) -> Option<u32> {
+    match due.get(i) {
+        Some(place) => Some(*place),
+        None => None,
+    }
+}
+
+/// Brings the numbers at the places from an index on up to date, and adds the places above those
+/// whose numbers changed.
+fn renumber_from(
     table: &Table,
-    due: &[u32],
+    from: usize,
+    due: &mut Vec<u32>,
     numbers: &mut [Numbers],
-) -> Result<Vec<u32>, Memory> {
-    let mut above = Vec::new(alloc);
-    for place in due {
-        if renumber_at(table, *place, numbers) {
+) -> Result<(), Memory> {
+    for i in from..due.len() {
+        let Some(place) = place_at(due.as_slice(), i) else {
+            return Ok(());
+        };
+        if renumber_at(table, place, numbers) {
             let parents = table.parents.as_slice();
-            if let Some(places) = parents.get(*place as usize) {
-                above.extend_from_slice(places.as_slice())?;
+            if let Some(places) = parents.get(place as usize) {
+                due.extend_from_slice(places.as_slice())?;
             }
         }
     }
-    Ok(above)
+    Ok(())
 }
 
 impl Guide {
@@ -117,6 +132,8 @@ impl Guide {
         Guide {
             numbers: Vec::new(alloc),
             orders: Vec::new(alloc),
+            due: Vec::new(alloc),
+            way: Way::new(),
         }
     }
 
@@ -176,13 +193,16 @@ impl Guide {
     {
         self.add_new(alloc, table)?;
         self.set_order(place, order);
-        let mut due = Vec::new(alloc);
-        due.push(place)?;
+        self.due.clear();
+        self.due.push(place)?;
+        let mut from = 0;
         for _ in 0..levels {
-            if due.is_empty() {
+            let to = self.due.len();
+            if from == to {
                 return Ok(());
             }
-            due = renumber_all(alloc, table, due.as_slice(), self.numbers.as_mut_slice())?;
+            renumber_from(table, from, &mut self.due, self.numbers.as_mut_slice())?;
+            from = to;
         }
         Ok(())
     }

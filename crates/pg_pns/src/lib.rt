@@ -16,6 +16,7 @@ mod met;
 mod numbers;
 mod settle;
 mod table;
+mod way;
 mod work;
 
 pub use calls::{budget_of, search, search_with};

@@ -15,7 +15,7 @@ use pg_base::Memory;
 use pg_board::Board;
 use pg_cert::Body;
 use pg_game::Position;
-use pg_leaf::{Ahead, KeptNode, Key, Told, attack_leaf, leaf};
+use pg_leaf::{Ahead, KeptNode, Key, Told, attack_leaf, leaf_with};
 use pg_match::PairCache;
 use std::alloc::Global;
 
@@ -130,7 +130,8 @@ fn leaf_after(
         Told::Unsure => {}
     }
     board.play(v);
-    let found = leaf(alloc, asked.game, asked.question, q, board, cache);
+    let next = &expansion.ahead.next;
+    let found = leaf_with(alloc, asked.game, asked.question, q, board, cache, next);
     board.undo();
     found
 }

@@ -6,6 +6,7 @@ use Rattle.pg_pns.specs.declared.limits.TheConstants.{MAX_EXPANDED_MOVES}
 use Rattle.pg_pns.proofs.Searching.{open-table}
 use Rattle.pg_pns.proofs.TableLaws.{table-none}
 use Rattle.pg_pns.specs.Descent.{IsAtStart}
+use Rattle.pg_pns.proofs.Descending.{from-start}
 use Rattle.pg_pns.proofs.expansion.explore_on.Goals as goal
 
 met-few : (met listed budget free : ℕ)
@@ -44,8 +45,9 @@ returns-in-None-clause-answer c = open-table c.args.asked.game.now c.args.asked.
 pub find_answer-requires-clause-reads : goal.find_answer-requires-clause-reads
 find_answer-requires-clause-reads c = record {
   asked = c.requires.reads.asked;
-  starts = subst (λ (b : View). IsAtStart c.args.asked.game.now b)
-      (sym c.first_table.ensures.kept.same) c.requires.reads.starts;
+  starts = from-start c.args.asked.game.now c.first_table.new.board
+      (subst (λ (b : View). IsAtStart c.args.asked.game.now b)
+      (sym c.first_table.ensures.kept.same) c.requires.reads.starts) c.requires.reads.asked.lines;
   fits = c.first_table.ensures.kept.fits;
 }
 

@@ -1,14 +1,14 @@
-use Rattle.std.proofs.Common.{◌≡◌, ◌∙◌, ◌++◌, ◌∷◌, [], ℕ, List, Some, length, length-append}
+use Rattle.std.proofs.Common.{◌≡◌, ◌≢◌, ◌∙◌, ◌++◌, ◌∷◌, [], ℕ, List, Some, length, length-append}
 use Rattle.std.proofs.Common.{slice_get}
 use Rattle.std.proofs.Common.{refl, sym, ap, subst, arith}
 use Rattle.pg_pns.proofs.Common.{slice_get_within, keys_of, Contains, Position}
 use Rattle.pg_pns.proofs.Common.{Game, Score, IsTable, View, start, one_at, contains_at, at_old}
-use Rattle.pg_pns.proofs.Common.{at_new}
+use Rattle.pg_pns.proofs.Common.{at_new, Stand}
+use Rattle.pg_pns.specs.Prelude.{Switching}
 use Rattle.pg_pns.specs.declared.table.Table.{Table}
 use Rattle.pg_pns.specs.Search.{IsSearch, IsNext, CanGrow}
 use Rattle.pg_pns.proofs.Searching.{next-in, can-grow, few-from}
 use Rattle.pg_pns.specs.Descent.{first_stand}
-use Rattle.pg_pns.proofs.Descending.{back-at-start}
 use Rattle.pg_pns.proofs.expansion.step.Goals as goal
 
 -- the place that was chosen, with the position read there
@@ -29,11 +29,12 @@ go_down-k-requires-clause-search c = (
 )
 
 pub go_down-k-requires-clause-starts : goal.go_down-k-requires-clause-starts
-go_down-k-requires-clause-starts c = record {
-  game = refl;
-  position = c.requires.reads.starts.position ∙ ap start (sym c.requires.reads.starts.game);
-  earlier = c.requires.reads.starts.earlier;
-}
+go_down-k-requires-clause-starts c =
+    let starts = c.requires.reads.starts in record {
+      game = refl;
+      lines = subst (λ (g : Game). g.kind ≢ Switching) (sym starts.game) starts.lines;
+      first = starts.first ∙ ap start (sym starts.game);
+    }
 
 pub expand-requires-clause-reads : goal.expand-requires-clause-reads
 expand-requires-clause-reads c = λ p at. record {
@@ -50,10 +51,12 @@ expand-requires-clause-reads c = λ p at. record {
 pub returns-clause-starts : goal.returns-clause-starts
 returns-clause-starts c =
     let kept = c.in_ok-expand.ensures.kept.same in
-    back-at-start c.args.asked.game.now c.args.board.now c.go_down-k.new.board c.go_up.new.board
-    c.requires.reads.starts c.go_down-k.ensures.game c.go_down-k.ensures.first
-    (c.go_up.ensures.game ∙ ap (λ (b : View). b.game) kept)
-    (c.go_up.ensures.stand ∙ ap first_stand kept) c.go_up.ensures.earlier
+    let starts = c.requires.reads.starts in record {
+      game = ap (λ (b : View). b.game) kept ∙ c.go_down-k.ensures.game ∙ starts.game;
+      lines = starts.lines;
+      first = ap (λ (t : Stand). t.position)
+          (ap first_stand kept ∙ c.go_down-k.ensures.first) ∙ starts.first;
+    }
 
 pub key-p-requires : goal.key-p-requires
 key-p-requires c =

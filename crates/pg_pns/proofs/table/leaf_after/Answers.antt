@@ -6,7 +6,8 @@ use Rattle.pg_game.proofs.Moves.{IsPosition-after}
 use Rattle.pg_threat.proofs.Boards.{one-earlier, taken-back}
 use Rattle.pg_pns.specs.Prelude.{Body, IsLeaf, Score, decided}
 use Rattle.pg_pns.specs.Met.{IsLeafOf}
-use Rattle.pg_pns.proofs.Foretold.{attack-leaf, decided-leaf, expansion-move, open-leaf, told-at}
+use Rattle.pg_pns.proofs.Foretold.{attack-leaf, decided-leaf, expansion-move, known-move}
+use Rattle.pg_pns.proofs.Foretold.{open-leaf, told-at}
 use Rattle.pg_pns.proofs.table.leaf_after.Goals as goal
 
 pub tells-requires-clause-moves : goal.tells-requires-clause-moves
@@ -49,8 +50,8 @@ pub play-requires-clause-free : goal.play-requires-clause-free
 play-requires-clause-free c = subst (λ (p : Position). is_free p c.args.v ≡ true)
     (sym c.requires.reads.reads.stands.position) c.requires.moves.free
 
-pub leaf-found-requires-clause-asked : goal.leaf-found-requires-clause-asked
-leaf-found-requires-clause-asked c =
+pub leaf_with-found-requires-clause-asked : goal.leaf_with-found-requires-clause-asked
+leaf_with-found-requires-clause-asked c =
     let reads = c.requires.reads.reads in
     record {
       question = reads.asked.question;
@@ -61,8 +62,8 @@ leaf-found-requires-clause-asked c =
           c.requires.moves.free);
     }
 
-pub leaf-found-requires-clause-stands : goal.leaf-found-requires-clause-stands
-leaf-found-requires-clause-stands c =
+pub leaf_with-found-requires-clause-stands : goal.leaf_with-found-requires-clause-stands
+leaf_with-found-requires-clause-stands c =
     let stands = c.requires.reads.reads.stands in
     record {
       game = c.play.ensures.game ∙ stands.game;
@@ -70,19 +71,22 @@ leaf-found-requires-clause-stands c =
           ∙ ap (λ (g : Game). after g c.args.board.now.stand.position c.args.v) stands.game
           ∙ ap (λ (p : Position). after c.args.asked.game.now p c.args.v) stands.position
           ∙ sym c.requires.leads;
+      known = known-move c.args.asked.game.now c.args.asked.question c.args.expansion.now
+          c.args.board.now c.args.cache.now c.requires.reads c.args.v c.args.q.now
+          c.requires.moves c.requires.leads;
     }
 
 pub undo-requires : goal.undo-requires
 undo-requires c =
-    one-earlier c.leaf-found.new.b.earlier c.args.board.now.earlier c.args.board.now.stand
-    (ap (λ (b : View). b.earlier) c.leaf-found.ensures.kept ∙ c.play.ensures.earlier)
+    one-earlier c.leaf_with-found.new.b.earlier c.args.board.now.earlier c.args.board.now.stand
+    (ap (λ (b : View). b.earlier) c.leaf_with-found.ensures.kept ∙ c.play.ensures.earlier)
 
 pub returns-clause-kept : goal.returns-clause-kept
 returns-clause-kept c = record {
-  same = taken-back c.args.board.now c.play.new.self c.leaf-found.new.b c.undo.new.self
-      c.play.ensures.game c.play.ensures.earlier c.leaf-found.ensures.kept c.undo.ensures.game
+  same = taken-back c.args.board.now c.play.new.self c.leaf_with-found.new.b c.undo.new.self
+      c.play.ensures.game c.play.ensures.earlier c.leaf_with-found.ensures.kept c.undo.ensures.game
       c.undo.ensures.earlier;
-  fits = c.leaf-found.ensures.fits;
+  fits = c.leaf_with-found.ensures.fits;
 }
 
 -- both that is known of a leaf
@@ -96,4 +100,4 @@ leaf-both g t q (Err e) answer body = tt
 
 pub returns-clause-found : goal.returns-clause-found
 returns-clause-found c = leaf-both c.args.asked.game.now c.args.asked.question c.args.q.now
-    c.leaf-found.result c.leaf-found.ensures.decided c.leaf-found.ensures.body
+    c.leaf_with-found.result c.leaf_with-found.ensures.decided c.leaf_with-found.ensures.body

@@ -1,5 +1,5 @@
 use Rattle.pg_pns.specs.Descent.{GoesDown, free_at}
-use Rattle.pg_pns.proofs.descent.go_down.Given as goal
+use Rattle.pg_pns.proofs.descent.play_down.Given as goal
 
 abbrev pub invariant-loop-v : goal.invariant-loop-v
 invariant-loop-v l = GoesDown l.table l.fn.board l.board l.place
