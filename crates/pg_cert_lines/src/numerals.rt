@@ -96,7 +96,8 @@ fn first_two_digits(text: &[u8]) -> Option<(u32, &[u8])>
     Some((tens * 10 + ones, &text[3..]))
 }
 
-/// The number of the first word, and the text of the other words if there are any.
+/// The number of the first word, and the text of the other words if there are any. A number of one
+/// digit or two is read at once.
 pub(crate) fn first_number(text: &[u8]) -> Option<(u32, Option<&[u8]>)>
     ensures { IfSome result (λ p. IsFirstNumber text.now p.0 (option_map (λ w. w.now) p.1)) }
 {
@@ -106,6 +107,13 @@ pub(crate) fn first_number(text: &[u8]) -> Option<(u32, Option<&[u8]>)>
     if let Some((number, others)) = first_two_digits(text) {
         return Some((number, Some(others)));
     }
+    first_digits(text)
+}
+
+/// The number of the first word, and the text of the other words if there are any.
+fn first_digits(text: &[u8]) -> Option<(u32, Option<&[u8]>)>
+    ensures { IfSome result (λ p. IsFirstNumber text.now p.0 (option_map (λ w. w.now) p.1)) }
+{
     let found = leading(text)?;
     if found.count == text.len() {
         return Some((found.value, None));
@@ -132,7 +140,8 @@ fn number_before(sign: u8, text: &[u8]) -> Option<(u32, &[u8])>
 }
 
 /// The two numbers that the first word is, with the sign between them, and the text of the other
-/// words if there are any. The sign is neither a digit nor a space.
+/// words if there are any. The sign is neither a digit nor a space; the second number is mostly one
+/// of a node, which has more than two digits.
 pub(crate) fn two_numbers(sign: u8, text: &[u8]) -> Option<(u32, u32, Option<&[u8]>)>
     requires digit { is_ascii_digit sign ≡ false }
     requires space { sign ≢ SPACE }
@@ -140,6 +149,6 @@ pub(crate) fn two_numbers(sign: u8, text: &[u8]) -> Option<(u32, u32, Option<&[u
         (λ t. AreTwoNumbers sign text.now t.0 t.1 (option_map (λ w. w.now) t.2)) }
 {
     let (a, behind) = number_before(sign, text)?;
-    let (b, others) = first_number(behind)?;
+    let (b, others) = first_digits(behind)?;
     Some((a, b, others))
 }
