@@ -17,5 +17,5 @@ pub use Rattle.pg_game.specs.Position.{is_free}
 pub use Rattle.pg_game.specs.declared.game.Game.{Game}
 pub use Rattle.pg_game.specs.declared.position.Position.{Position}
 pub use Rattle.pg_match.specs.Cache.{Cache, Fits}
-pub use Rattle.std.specs.HashMap.{hash_map_len}
+pub use Rattle.pg_transpositions.specs.Table.{count_of, most_of}
 pub use Rattle.std.specs.List.{All}

@@ -1,19 +1,15 @@
 //! The search, down and up the board.
 ghost use Rattle.std.specs.Prelude.{◌≡◌, ◌<◌, ◌≤◌, ◌+◌};
-ghost use Rattle.pg_dfpn.specs.Prelude.{Fits, hash_map_len, lines_of};
+ghost use Rattle.pg_dfpn.specs.Prelude.{Fits, count_of, lines_of, most_of};
 ghost use Rattle.pg_dfpn.specs.Asking.{IsRead};
 
 use crate::judging::{Asked, judged};
 use crate::moving::{play_free, undo_last};
-use crate::numbers::Numbers;
-use crate::signature::Signature;
-use crate::survey::{Frame, Survey};
-use crate::table::Table;
-use pg_base::{MAX_MEMBERS, Memory};
+use pg_base::{Memory, Side};
 use pg_board::Board;
-use pg_game::Position;
 use pg_limits::{Progress, Watch};
 use pg_match::PairCache;
+use pg_transpositions::{Frame, Move, Moves, Numbers, Signature, Signatures, Survey, Table};
 use std::alloc::Global;
 
 /// How often a position may be looked at again for each that may be expanded.
@@ -30,30 +26,12 @@ pub(crate) struct Search {
     pub(crate) expanded: u32,
 }
 
-/// The numbers after the move to the point.
-fn numbers_after(asked: Asked<'_>, p: &Position, v: u16, table: &Table) -> Option<Numbers>
-    requires { v < MAX_MEMBERS }
-{
-    table.find(&asked.signatures.at(&asked.game.after(p, v)))
-}
-
-/// What the moves at the position tell that were met.
-pub(crate) fn survey_at(asked: Asked<'_>, p: &Position, table: &Table) -> Survey {
-    let mut survey = Survey::new(p.turn);
-    for v in 0..asked.game.points() {
-        if p.is_free(v) {
-            if let Some(numbers) = numbers_after(asked, p, v, table) {
-                survey.put(v, &numbers);
-            }
-        }
-    }
-    survey
-}
-
-/// The numbers of the position of the board, which is judged if it wasn't met.
+/// The numbers of the position of the board, whose signature is `key`; it is judged if it was not
+/// met before.
 pub(crate) fn met(
     alloc: Global,
     asked: Asked<'_>,
+    key: &Signature,
     board: &mut Board<'_>,
     cache: &mut PairCache,
     table: &mut Table,
@@ -61,50 +39,47 @@ pub(crate) fn met(
     requires reads { IsRead asked.game.now asked.question board.old cache.old }
     ensures game { board.new.game ≡ board.old.game }
     ensures fits { Fits cache.new (lines_of asked.entry.game.now) }
-    ensures most { table.new.most ≡ table.old.most }
+    ensures most { most_of table.new ≡ most_of table.old }
 {
-    let key = asked.signatures.at(&board.position());
-    if let Some(numbers) = table.find(&key) {
+    if let Some(numbers) = table.find(key) {
         return Ok(numbers);
     }
     let numbers = judged(alloc, asked, board, cache)?;
-    table.put(key, numbers)?;
+    table.put(*key, numbers)?;
     Ok(numbers)
 }
 
-/// Judges the position after the move to the point, where it was not met, and tells whether the
-/// mover wins there.
+/// Judges the position after the move of the side, where it was not met, and tells whether the side
+/// wins there.
 fn meet(
     alloc: Global,
     asked: Asked<'_>,
-    p: &Position,
-    v: u16,
+    turn: Side,
+    to: &Move,
     board: &mut Board<'_>,
     cache: &mut PairCache,
     table: &mut Table,
 ) -> Result<bool, Memory>
     requires reads { IsRead asked.game.now asked.question board.old cache.old }
-    requires range { v < MAX_MEMBERS }
     ensures game { board.new.game ≡ board.old.game }
     ensures fits { Fits cache.new (lines_of asked.entry.game.now) }
-    ensures most { table.new.most ≡ table.old.most }
+    ensures most { most_of table.new ≡ most_of table.old }
 {
-    let key = asked.signatures.at(&asked.game.after(p, v));
-    if let Some(numbers) = table.find(&key) {
-        return Ok(numbers.of(p.turn) == 0);
+    if let Some(numbers) = table.find(&to.key) {
+        return Ok(numbers.of(turn) == 0);
     }
-    play_free(board, v);
+    play_free(board, u16::from(to.point));
     let numbers = judged(alloc, asked, board, cache)?;
     undo_last(board);
-    table.put(key, numbers)?;
-    Ok(numbers.of(p.turn) == 0)
+    table.put(to.key, numbers)?;
+    Ok(numbers.of(turn) == 0)
 }
 
 /// Judges the positions after all moves, up to one at which the mover wins.
 fn expand(
     alloc: Global,
     asked: Asked<'_>,
-    p: &Position,
+    moves: &Moves<'_>,
     board: &mut Board<'_>,
     cache: &mut PairCache,
     table: &mut Table,
@@ -112,10 +87,10 @@ fn expand(
     requires reads { IsRead asked.game.now asked.question board.old cache.old }
     ensures game { board.new.game ≡ board.old.game }
     ensures fits { Fits cache.new (lines_of asked.entry.game.now) }
-    ensures most { table.new.most ≡ table.old.most }
+    ensures most { most_of table.new ≡ most_of table.old }
 {
-    for v in 0..asked.game.points() {
-        if p.is_free(v) && meet(alloc, asked, p, v, board, cache, table)? {
+    for to in &moves.each {
+        if meet(alloc, asked, moves.turn, to, board, cache, table)? {
             return Ok(());
         }
     }
@@ -135,6 +110,7 @@ fn is_expanded(key: &Signature, table: &Table) -> bool {
 fn visit(
     alloc: Global,
     asked: Asked<'_>,
+    moves: &Moves<'_>,
     board: &mut Board<'_>,
     cache: &mut PairCache,
     search: &mut Search,
@@ -143,54 +119,96 @@ fn visit(
     requires few { search.old.expanded < asked.limits.positions }
     ensures game { board.new.game ≡ board.old.game }
     ensures fits { Fits cache.new (lines_of asked.entry.game.now) }
-    ensures most { search.new.table.most ≡ search.old.table.most }
+    ensures most { most_of search.new.table ≡ most_of search.old.table }
     ensures counted { (search.old.expanded ≤ search.new.expanded)
         × (search.new.expanded ≤ search.old.expanded + 1) }
     ensures met { search.new.expanded ≡ search.old.expanded
-        → hash_map_len search.new.table.numbers ≡ hash_map_len search.old.table.numbers }
+        → count_of search.new.table ≡ count_of search.old.table }
 {
-    let p = board.position();
-    let key = asked.signatures.at(&p);
-    if is_expanded(&key, &search.table) {
-        let survey = survey_at(asked, &p, &search.table);
-        search.table.renew(&key, survey.numbers());
+    if is_expanded(&moves.key, &search.table) {
+        let survey = moves.survey(&search.table);
+        search.table.renew(&moves.key, survey.numbers());
         return Ok(survey);
     }
     search.expanded += 1;
-    expand(alloc, asked, &p, board, cache, &mut search.table)?;
-    let survey = survey_at(asked, &p, &search.table);
-    search.table.put(key, survey.numbers())?;
+    expand(alloc, asked, moves, board, cache, &mut search.table)?;
+    let survey = moves.survey(&search.table);
+    search.table.put(moves.key, survey.numbers())?;
     Ok(survey)
 }
 
-/// Goes up to the position of the last frame, if there is one.
-fn go_back(board: &mut Board<'_>, frames: &[Frame])
+/// A position on the way down.
+#[derive(Debug, Drop)]
+struct Level<'a> {
+    /// What it is to reach.
+    frame: Frame,
+    moves: Moves<'a>,
+}
+
+/// Goes up to the position of the last level, if there is one.
+fn go_back(board: &mut Board<'_>, levels: &[Level<'_>])
     ensures { board.new.game ≡ board.old.game }
 {
-    if !frames.is_empty() {
+    if !levels.is_empty() {
         undo_last(board);
     }
 }
 
-/// Goes down to the best move, or up where the last frame is reached.
-fn go_on(board: &mut Board<'_>, survey: &Survey, frames: &mut Vec<Frame>) -> Result<(), Memory>
+/// The position after the best move, which is played, unless the frame of the level is reached.
+fn next_level<'a>(
+    alloc: Global,
+    level: &Level<'a>,
+    survey: &Survey,
+    board: &mut Board<'_>,
+) -> Result<Option<Level<'a>>, Memory>
     ensures { board.new.game ≡ board.old.game }
 {
-    let Some(frame) = frames.pop() else {
+    let Some(to) = survey.best() else {
+        return Ok(None);
+    };
+    if level.frame.is_reached(&survey.numbers()) {
+        return Ok(None);
+    }
+    play_free(board, u16::from(to.point));
+    let moves = level.moves.after(alloc, &to, board.turn())?;
+    let frame = survey.below(&level.frame);
+    Ok(Some(Level { frame, moves }))
+}
+
+/// Goes down to the best move, or up where the frame of the last level is reached.
+fn go_on<'a>(
+    alloc: Global,
+    survey: &Survey,
+    board: &mut Board<'_>,
+    levels: &mut Vec<Level<'a>>,
+) -> Result<(), Memory>
+    ensures { board.new.game ≡ board.old.game }
+{
+    let Some(level) = levels.last() else {
         return Ok(());
     };
-    let Some(v) = survey.point() else {
-        go_back(board, frames.as_slice());
-        return Ok(());
-    };
-    if frame.is_reached(&survey.numbers()) {
-        go_back(board, frames.as_slice());
+    if let Some(next) = next_level(alloc, level, survey, board)? {
+        levels.push(next)?;
         return Ok(());
     }
-    frames.push(frame)?;
-    frames.push(survey.below(&frame))?;
-    play_free(board, v);
+    let _reached = levels.pop();
+    go_back(board, levels.as_slice());
     Ok(())
+}
+
+/// The position of the board as the only level.
+fn first_level<'a>(
+    alloc: Global,
+    signatures: &'a Signatures,
+    board: &Board<'_>,
+) -> Result<Vec<Level<'a>>, Memory> {
+    let moves = Moves::at(alloc, signatures, &board.position())?;
+    let mut levels = Vec::new(alloc);
+    levels.push(Level {
+        frame: Frame::whole(),
+        moves,
+    })?;
+    Ok(levels)
 }
 
 /// How far the search is.
@@ -224,20 +242,22 @@ pub(crate) fn descend<W: Watch>(
     requires within { most ≤ asked.limits.positions }
     ensures game { board.new.game ≡ board.old.game }
     ensures fits { Fits cache.new (lines_of asked.entry.game.now) }
-    ensures most { search.new.table.most ≡ search.old.table.most }
+    ensures most { most_of search.new.table ≡ most_of search.old.table }
     ensures few { search.new.expanded ≤ most }
 {
-    let mut frames = Vec::new(alloc);
-    frames.push(Frame::whole())?;
+    let mut levels = first_level(alloc, asked.signatures, board)?;
     for step in 0..VISITS * u64::from(most) {
-        if frames.is_empty() || search.table.is_full() || search.expanded >= most {
+        let Some(level) = levels.last() else {
+            return Ok(());
+        };
+        if search.table.is_full() || search.expanded >= most {
             return Ok(());
         }
         if step % STEPS_A_NOTE == 0 {
             watch.note(progress_of(asked, search));
         }
-        let survey = visit(alloc, asked, board, cache, search)?;
-        go_on(board, &survey, &mut frames)?;
+        let survey = visit(alloc, asked, &level.moves, board, cache, search)?;
+        go_on(alloc, &survey, board, &mut levels)?;
     }
     Ok(())
 }

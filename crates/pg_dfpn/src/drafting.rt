@@ -4,11 +4,8 @@ ghost use Rattle.pg_dfpn.specs.Prelude.{All, Fits, IsReply, Reply, claimer, free
 ghost use Rattle.pg_dfpn.specs.Asking.{IsRead};
 ghost use Rattle.pg_dfpn.specs.Drafted.{AreFit, IsPlainBody};
 
-use crate::descent::survey_at;
 use crate::judging::{Asked, judge};
 use crate::moving::{play_free, undo_last};
-use crate::numbers::State;
-use crate::table::Table;
 use pg_base::{MAX_MEMBERS, Memory, Side};
 use pg_board::Board;
 use pg_cert::{Body, MAX_CLAIM_NODES, Node, Replies, Reply};
@@ -16,6 +13,7 @@ use pg_game::{Game, Position};
 use pg_leaf::Key;
 use pg_limits::{Watch, note_nodes};
 use pg_match::PairCache;
+use pg_transpositions::{State, Table, survey_at};
 use std::alloc::Global;
 use std::collections::HashMap;
 
@@ -131,7 +129,10 @@ impl Draft {
         }
         match self.first_known(asked.game, p) {
             Some(_) => None,
-            None => survey_at(asked, p, table).winning(),
+            None => match survey_at(asked.signatures, p, table).winning() {
+                Some(to) => Some(u16::from(to.point)),
+                None => None,
+            },
         }
     }
 

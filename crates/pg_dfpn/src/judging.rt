@@ -4,8 +4,6 @@ ghost use Rattle.pg_dfpn.specs.Prelude.{Fits, lines_of};
 ghost use Rattle.pg_dfpn.specs.Asking.{IsRead};
 ghost use Rattle.pg_dfpn.specs.Drafted.{IsPlainBody};
 
-use crate::numbers::{Numbers, first_numbers};
-use crate::signature::Signatures;
 use pg_base::{Kind, Memory, Pairs, Score, Side};
 use pg_board::Board;
 use pg_cert::Body;
@@ -14,6 +12,7 @@ use pg_leaf::leaf;
 use pg_limits::Limits;
 use pg_match::PairCache;
 use pg_shared::shared_pairs;
+use pg_transpositions::{Numbers, Signatures, first_numbers};
 use std::alloc::Global;
 
 /// What is asked of a game, and what may be used.

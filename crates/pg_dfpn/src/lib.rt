@@ -6,11 +6,7 @@ mod descent;
 mod drafting;
 mod judging;
 mod moving;
-mod numbers;
 mod settling;
-mod signature;
-mod survey;
-mod table;
 mod widening;
 
 pub use settling::{Settled, Settling, settle};

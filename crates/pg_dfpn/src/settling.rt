@@ -1,6 +1,6 @@
 //! The search as it is called.
 ghost use Rattle.std.specs.Prelude.{◌≡◌, ◌≢◌, ◌≤◌, IfOk};
-ghost use Rattle.pg_dfpn.specs.Prelude.{IsQuestion, Switching, Fits, lines_of};
+ghost use Rattle.pg_dfpn.specs.Prelude.{IsQuestion, Switching, Fits, lines_of, most_of};
 ghost use Rattle.pg_dfpn.specs.Asking.{IsRead};
 ghost use Rattle.pg_game.specs.Decided.{claimer as claimer_of, claimed_goal as claimed_by};
 ghost use Rattle.pg_dfpn.specs.Settled.{IsSettled};
@@ -9,8 +9,6 @@ use crate::descent::{Search, descend, met};
 use crate::drafting::{Draft, claimer};
 use crate::judging::{Asked, total_at};
 use crate::moving::go_up_to;
-use crate::signature::Signatures;
-use crate::table::Table;
 use crate::widening::widen;
 use pg_base::{Goal, Kind, Memory, Score};
 use pg_board::Board;
@@ -18,6 +16,7 @@ use pg_cert::{Claim, Nodes};
 use pg_game::Game;
 use pg_limits::{Limits, Watch};
 use pg_match::PairCache;
+use pg_transpositions::{Signatures, Table};
 use std::alloc::Global;
 
 /// The most answers on private pairs that a search keeps.
@@ -98,11 +97,11 @@ fn search_answer<W: Watch>(
     requires few { search.old.expanded ≤ asked.limits.positions }
     ensures game { board.new.game ≡ board.old.game }
     ensures fits { Fits cache.new (lines_of asked.entry.game.now) }
-    ensures most { search.new.table.most ≡ search.old.table.most }
+    ensures most { most_of search.new.table ≡ most_of search.old.table }
     ensures few { search.new.expanded ≤ asked.entry.limits.positions }
 {
     let key = asked.signatures.at(&board.position());
-    let first = met(alloc, asked, board, cache, &mut search.table)?;
+    let first = met(alloc, asked, &key, board, cache, &mut search.table)?;
     if first.answer().is_none() {
         descend(
             alloc,
@@ -136,7 +135,7 @@ fn search_wider<W: Watch>(
     requires few { search.old.expanded ≤ asked.limits.positions }
     ensures game { board.new.game ≡ board.old.game }
     ensures fits { Fits cache.new (lines_of asked.entry.game.now) }
-    ensures most { search.new.table.most ≡ search.old.table.most }
+    ensures most { most_of search.new.table ≡ most_of search.old.table }
     ensures few { search.new.expanded ≤ asked.entry.limits.positions }
 {
     if asked.game.kind != Kind::MakerMaker {
@@ -160,7 +159,7 @@ fn search_from<W: Watch>(
     requires few { search.old.expanded ≤ asked.limits.positions }
     ensures game { board.new.game ≡ board.old.game }
     ensures fits { Fits cache.new (lines_of asked.entry.game.now) }
-    ensures most { search.new.table.most ≡ search.old.table.most }
+    ensures most { most_of search.new.table ≡ most_of search.old.table }
     ensures few { search.new.expanded ≤ asked.entry.limits.positions }
 {
     let Some(answer) = search_answer(alloc, asked, board, cache, search, watch)? else {

@@ -1,17 +1,16 @@
 //! The search of the claimer's other moves, so that a smaller claim may be found.
 ghost use Rattle.std.specs.Prelude.{◌≡◌, ◌≤◌};
-ghost use Rattle.pg_dfpn.specs.Prelude.{Fits, lines_of};
+ghost use Rattle.pg_dfpn.specs.Prelude.{Fits, lines_of, most_of};
 ghost use Rattle.pg_dfpn.specs.Asking.{IsRead};
 
-use crate::descent::{STEPS_A_NOTE, Search, descend, met, progress_of, survey_at};
+use crate::descent::{STEPS_A_NOTE, Search, descend, met, progress_of};
 use crate::judging::Asked;
 use crate::moving::{go_up_to, play_free, undo_last};
-use crate::numbers::State;
-use crate::table::Table;
 use pg_base::{Memory, Side};
 use pg_board::Board;
 use pg_limits::{Unwatched, Watch};
 use pg_match::PairCache;
+use pg_transpositions::{Move, Moves, Signature, State, Table};
 use std::alloc::Global;
 
 /// How many entries the table may have while other moves are searched.
@@ -30,18 +29,28 @@ fn is_spent(asked: Asked<'_>, search: &Search) -> bool {
     search.expanded >= asked.limits.positions || search.table.len() >= entries as usize
 }
 
-/// Tests whether the claimer wins at the position of the board, and its moves weren't searched.
-fn is_narrow(asked: Asked<'_>, claimer: Side, board: &Board<'_>, table: &Table) -> bool {
-    match table.find(&asked.signatures.at(&board.position())) {
+/// A position on the way down.
+#[derive(Debug, Drop)]
+struct Look<'a> {
+    moves: Moves<'a>,
+    /// How many of the moves were looked at.
+    done: usize,
+}
+
+/// Tests whether the claimer wins at the position, and its moves weren't searched there.
+fn is_narrow(claimer: Side, key: &Signature, table: &Table) -> bool {
+    match table.find(key) {
         Some(numbers) => numbers.state == State::Expanded && numbers.of(claimer) == 0,
         None => false,
     }
 }
 
-/// Searches whether the claimer wins at the position of the board, to which its move has led.
+/// Searches whether the claimer wins at the position of the board, to which its move has led and
+/// whose signature is `key`.
 fn try_move(
     alloc: Global,
     asked: Asked<'_>,
+    key: &Signature,
     board: &mut Board<'_>,
     cache: &mut PairCache,
     search: &mut Search,
@@ -50,10 +59,10 @@ fn try_move(
     requires few { search.old.expanded ≤ asked.limits.positions }
     ensures game { board.new.game ≡ board.old.game }
     ensures fits { Fits cache.new (lines_of asked.entry.game.now) }
-    ensures most { search.new.table.most ≡ search.old.table.most }
+    ensures most { most_of search.new.table ≡ most_of search.old.table }
     ensures few { search.new.expanded ≤ asked.entry.limits.positions }
 {
-    let numbers = met(alloc, asked, board, cache, &mut search.table)?;
+    let numbers = met(alloc, asked, key, board, cache, &mut search.table)?;
     if numbers.answer().is_some() {
         return Ok(());
     }
@@ -69,23 +78,22 @@ fn try_move(
 
 /// Ends the look at the position of the board: its numbers are told anew, since its tree may have
 /// got smaller.
-fn leave(asked: Asked<'_>, board: &mut Board<'_>, table: &mut Table)
+fn leave(moves: &Moves<'_>, board: &mut Board<'_>, table: &mut Table)
     ensures game { board.new.game ≡ board.old.game }
-    ensures most { table.new.most ≡ table.old.most }
+    ensures most { most_of table.new ≡ most_of table.old }
 {
-    let p = board.position();
-    let mut numbers = survey_at(asked, &p, table).numbers();
+    let mut numbers = moves.survey(table).numbers();
     numbers.state = State::Widened;
-    table.renew(&asked.signatures.at(&p), numbers);
+    table.renew(&moves.key, numbers);
     undo_last(board);
 }
 
-/// Plays the free point, and searches whether the claimer wins after it if the claimer has moved.
+/// Plays the move, and searches whether the claimer wins after it if the claimer has moved.
 fn play_move(
     alloc: Global,
     asked: Asked<'_>,
     claimer: Side,
-    v: u16,
+    to: &Move,
     board: &mut Board<'_>,
     cache: &mut PairCache,
     search: &mut Search,
@@ -94,19 +102,18 @@ fn play_move(
     requires few { search.old.expanded ≤ asked.limits.positions }
     ensures game { board.new.game ≡ board.old.game }
     ensures fits { Fits cache.new (lines_of asked.entry.game.now) }
-    ensures most { search.new.table.most ≡ search.old.table.most }
+    ensures most { most_of search.new.table ≡ most_of search.old.table }
     ensures few { search.new.expanded ≤ asked.entry.limits.positions }
 {
     let turn = board.turn();
-    play_free(board, v);
+    play_free(board, u16::from(to.point));
     if turn != claimer {
         return Ok(());
     }
-    try_move(alloc, asked, board, cache, search)
+    try_move(alloc, asked, &to.key, board, cache, search)
 }
 
-/// Looks at the next move at the position of the board; `next` has the point of it, below those of
-/// the positions on the way down.
+/// Looks at the next move at the position of the board, which is that of the last look.
 fn step(
     alloc: Global,
     asked: Asked<'_>,
@@ -114,32 +121,33 @@ fn step(
     board: &mut Board<'_>,
     cache: &mut PairCache,
     search: &mut Search,
-    next: &mut Vec<u16>,
+    looks: &mut Vec<Look<'_>>,
 ) -> Result<(), Memory>
     requires reads { IsRead asked.game.now asked.question board.old cache.old }
     requires few { search.old.expanded ≤ asked.limits.positions }
     ensures game { board.new.game ≡ board.old.game }
     ensures fits { Fits cache.new (lines_of asked.entry.game.now) }
-    ensures most { search.new.table.most ≡ search.old.table.most }
+    ensures most { most_of search.new.table ≡ most_of search.old.table }
     ensures few { search.new.expanded ≤ asked.entry.limits.positions }
 {
-    let Some(v) = next.pop() else {
+    let Some(mut look) = looks.pop() else {
         return Ok(());
     };
-    if v >= asked.game.points() || is_spent(asked, search) {
-        leave(asked, board, &mut search.table);
+    if look.done >= look.moves.each.len() || is_spent(asked, search) {
+        leave(&look.moves, board, &mut search.table);
         return Ok(());
     }
-    next.push(v + 1)?;
-    if !board.position().is_free(v) {
+    let to = look.moves.each[look.done];
+    look.done += 1;
+    play_move(alloc, asked, claimer, &to, board, cache, search)?;
+    if !is_narrow(claimer, &to.key, &search.table) {
+        undo_last(board);
+        looks.push(look)?;
         return Ok(());
     }
-    play_move(alloc, asked, claimer, v, board, cache, search)?;
-    if is_narrow(asked, claimer, board, &search.table) {
-        next.push(0)?;
-        return Ok(());
-    }
-    undo_last(board);
+    let moves = look.moves.after(alloc, &to, board.turn())?;
+    looks.push(look)?;
+    looks.push(Look { moves, done: 0 })?;
     Ok(())
 }
 
@@ -158,22 +166,23 @@ pub(crate) fn widen<W: Watch>(
     requires few { search.old.expanded ≤ asked.limits.positions }
     ensures game { board.new.game ≡ board.old.game }
     ensures fits { Fits cache.new (lines_of asked.entry.game.now) }
-    ensures most { search.new.table.most ≡ search.old.table.most }
+    ensures most { most_of search.new.table ≡ most_of search.old.table }
     ensures few { search.new.expanded ≤ asked.entry.limits.positions }
 {
-    if !is_narrow(asked, claimer, board, &search.table) {
+    let moves = Moves::at(alloc, asked.signatures, &board.position())?;
+    if !is_narrow(claimer, &moves.key, &search.table) {
         return Ok(());
     }
-    let mut next = Vec::new(alloc);
-    next.push(0)?;
+    let mut looks = Vec::new(alloc);
+    looks.push(Look { moves, done: 0 })?;
     for look in 0..ENTRY_STEPS * u64::from(asked.limits.entries) {
-        if next.is_empty() {
+        if looks.is_empty() {
             return Ok(());
         }
         if look % STEPS_A_NOTE == 0 {
             watch.note(progress_of(asked, search));
         }
-        step(alloc, asked, claimer, board, cache, search, &mut next)?;
+        step(alloc, asked, claimer, board, cache, search, &mut looks)?;
     }
     Ok(())
 }

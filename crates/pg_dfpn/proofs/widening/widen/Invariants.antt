@@ -1,11 +1,11 @@
 use Rattle.std.proofs.Common.{◌≡◌, ◌≤◌}
-use Rattle.pg_dfpn.specs.Prelude.{Fits, lines_of}
+use Rattle.pg_dfpn.specs.Prelude.{Fits, lines_of, most_of}
 use Rattle.pg_dfpn.proofs.widening.widen.Given as goal
 
 abbrev pub invariant-loop-look : goal.invariant-loop-look
 invariant-loop-look g l = record {
   game : l.board.game ≡ l.fn.board.game;
   fits : Fits l.cache (lines_of l.asked.game.now);
-  most : l.search.table.most ≡ l.fn.search.table.most;
+  most : most_of l.search.table ≡ most_of l.fn.search.table;
   few : l.search.expanded ≤ l.asked.limits.positions;
 }

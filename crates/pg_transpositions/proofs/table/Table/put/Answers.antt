@@ -1,5 +1,5 @@
-use Rattle.pg_dfpn.proofs.Within.{not-full, put-few}
-use Rattle.pg_dfpn.proofs.table.Table.put.Goals as goal
+use Rattle.pg_transpositions.proofs.Full.{not-full, put-few}
+use Rattle.pg_transpositions.proofs.table.Table.put.Goals as goal
 
 pub invariant_of-self : goal.invariant_of-self
 invariant_of-self c = record {

@@ -11,7 +11,7 @@ const MOST_FIRST: u32 = 4_000;
 
 /// What is known of a position.
 #[derive(Clone, Copy, Debug, PartialEq, Eq)]
-pub(crate) enum State {
+pub enum State {
     /// It was met, and no leaf decides it.
     Met,
     /// A leaf decides it.
@@ -22,23 +22,23 @@ pub(crate) enum State {
     Widened,
 }
 
-/// How hard it seems to show that the answer is yes, and that it is no: 0 where it is so, and
-/// `INFINITE` where it isn't.
+/// How hard it seems to show that the answer is yes, and that it is no: 0 if it is so, and 2^30 if
+/// it isn't.
 #[derive(Clone, Copy, Debug, PartialEq, Eq)]
-pub(crate) struct Numbers {
+pub struct Numbers {
     /// For yes.
-    pub(crate) proof: u32,
+    pub proof: u32,
     /// For no.
-    pub(crate) disproof: u32,
-    /// How many nodes the tree has that shows the answer, where it is known; 0 elsewhere.
-    pub(crate) size: u32,
+    pub disproof: u32,
+    /// How many nodes the tree has that shows the answer, if it is known, or else 0.
+    pub size: u32,
     /// What is known of it.
-    pub(crate) state: State,
+    pub state: State,
 }
 
 impl Numbers {
-    /// Those of a position that a leaf decides.
-    pub(crate) fn leaf(answer: bool) -> Numbers
+    /// Returns those of a position that a leaf decides.
+    pub fn leaf(answer: bool) -> Numbers
         ensures state { result.state ≡ State.Leaf }
         ensures size { result.size ≡ 1 }
     {
@@ -51,24 +51,24 @@ impl Numbers {
         }
     }
 
-    /// The number that the side makes least.
-    pub(crate) fn of(&self, side: Side) -> u32 {
+    /// Returns the number that the side makes least.
+    pub fn of(&self, side: Side) -> u32 {
         match side {
             Side::X => self.proof,
             Side::Y => self.disproof,
         }
     }
 
-    /// Whether the position was expanded.
-    pub(crate) fn is_expanded(&self) -> bool {
+    /// Tests whether the position was expanded.
+    pub fn is_expanded(&self) -> bool {
         match self.state {
             State::Met | State::Leaf => false,
             State::Expanded | State::Widened => true,
         }
     }
 
-    /// The answer, where it is known.
-    pub(crate) fn answer(&self) -> Option<bool> {
+    /// Returns the answer if it is known.
+    pub fn answer(&self) -> Option<bool> {
         if self.proof == 0 {
             return Some(true);
         }
@@ -100,10 +100,10 @@ fn eightfold(above: u128, below: u128) -> u32
     ratio.max(1).min(u128::from(MOST_FIRST)) as u32
 }
 
-/// The first numbers of a position of which the lines weigh so much, where they weigh so much at
-/// the game's own position. In Avoider-Enforcer weight is for no, else for yes. The side that must
-/// answer each of so many moves has more.
-pub(crate) fn first_numbers(
+/// Returns the first numbers of a position with `free` free points whose lines weigh `total`, if
+/// those of the game's own position weigh `first_total`. In Avoider-Enforcer weight is for no, else
+/// for yes. The side that must answer each move has more.
+pub fn first_numbers(
     is_avoider: bool,
     total: u128,
     first_total: u128,

@@ -1,33 +1,34 @@
 //! What the moves of a position tell.
-ghost use Rattle.std.specs.Prelude.{◌≡◌, ◌<◌, IfSome};
-ghost use Rattle.pg_base.specs.declared.limits.TheConstants.{MAX_MEMBERS};
+ghost use Rattle.std.specs.Prelude.{◌≡◌};
 
+use crate::moves::Move;
 use crate::numbers::{INFINITE, Numbers, State, quarters};
-use pg_base::{MAX_MEMBERS, Side};
+use pg_base::Side;
 
-/// What the positions below are to reach before the search goes up again: the number for yes, or
-/// that for no.
+/// What the positions below must reach before the search goes up again: the number for yes, or that
+/// for no.
 #[derive(Clone, Copy, Debug)]
-pub(crate) struct Frame {
-    pub(crate) proof: u32,
-    pub(crate) disproof: u32,
+pub struct Frame {
+    /// For yes.
+    pub proof: u32,
+    /// For no.
+    pub disproof: u32,
 }
 
 /// The move that seems best for the mover.
 #[derive(Clone, Copy, Debug)]
 struct Best {
-    point: u16,
+    to: Move,
     /// The mover's number after it.
     own: u32,
     /// The other side's.
     other: u32,
     size: u32,
-    ghost few: { point < MAX_MEMBERS },
 }
 
 /// What the moves of a position tell that were looked at so far.
 #[derive(Clone, Copy, Debug)]
-pub(crate) struct Survey {
+pub struct Survey {
     turn: Side,
     best: Option<Best>,
     /// The mover's least number after any other move.
@@ -41,8 +42,8 @@ pub(crate) struct Survey {
 }
 
 impl Survey {
-    /// No move looked at.
-    pub(crate) fn new(turn: Side) -> Survey {
+    /// Returns what no moves tell.
+    pub fn new(turn: Side) -> Survey {
         Survey {
             turn,
             best: None,
@@ -62,10 +63,8 @@ impl Survey {
         }
     }
 
-    /// Looks at the move to the point, with the numbers after it.
-    pub(crate) fn put(&mut self, point: u16, numbers: &Numbers)
-        requires { point < MAX_MEMBERS }
-    {
+    /// Adds a move, with the numbers after it.
+    pub fn put(&mut self, to: &Move, numbers: &Numbers) {
         let (own, other) = (numbers.of(self.turn), numbers.of(self.turn.other()));
         if other == 0 {
             self.lost = self.lost.saturating_add(numbers.size);
@@ -81,31 +80,25 @@ impl Survey {
             self.second = self.second.min(best.own);
         }
         self.best = Some(Best {
-            point,
+            to: *to,
             own,
             other,
             size: numbers.size,
         });
     }
 
-    /// The point of the best move, and None where each move loses.
-    pub(crate) fn point(&self) -> Option<u16> {
+    /// Returns the best move, or None if each move loses.
+    pub fn best(&self) -> Option<Move> {
         match self.best {
-            Some(best) => Some(best.point),
+            Some(best) => Some(best.to),
             None => None,
         }
     }
 
-    /// The point of the best move, where it wins.
-    pub(crate) fn winning(&self) -> Option<u16>
-        ensures { IfSome result (λ v. v < MAX_MEMBERS) }
-    {
+    /// Returns the best move if it wins.
+    pub fn winning(&self) -> Option<Move> {
         match self.best {
-            Some(best) => if best.own == 0 {
-                Some(best.point)
-            } else {
-                None
-            },
+            Some(best) => if best.own == 0 { Some(best.to) } else { None },
             None => None,
         }
     }
@@ -122,8 +115,8 @@ impl Survey {
         (best.own, other.min(INFINITE - 1), 0)
     }
 
-    /// The numbers of the position.
-    pub(crate) fn numbers(&self) -> Numbers
+    /// Returns the numbers of the position.
+    pub fn numbers(&self) -> Numbers
         ensures { result.state ≡ State.Expanded }
     {
         let (own, other, size) = self.parts();
@@ -139,9 +132,9 @@ impl Survey {
         }
     }
 
-    /// What the best move is to reach: its own number up to a quarter more than the second one, and
-    /// the other side's as far as the move makes the greatest.
-    pub(crate) fn below(&self, frame: &Frame) -> Frame {
+    /// Returns what the best move must reach: its own number up to a quarter more than the second
+    /// one, and the other side's as far as the move makes the greatest.
+    pub fn below(&self, frame: &Frame) -> Frame {
         let (own, other) = match self.turn {
             Side::X => (frame.proof, frame.disproof),
             Side::Y => (frame.disproof, frame.proof),
@@ -171,16 +164,16 @@ impl Survey {
 }
 
 impl Frame {
-    /// That the answer is known.
-    pub(crate) fn whole() -> Frame {
+    /// Returns the frame that only a known answer reaches.
+    pub fn whole() -> Frame {
         Frame {
             proof: INFINITE,
             disproof: INFINITE,
         }
     }
 
-    /// Whether the numbers reach it.
-    pub(crate) fn is_reached(&self, numbers: &Numbers) -> bool {
+    /// Tests whether the numbers reach it.
+    pub fn is_reached(&self, numbers: &Numbers) -> bool {
         numbers.answer().is_some()
             || numbers.proof >= self.proof
             || numbers.disproof >= self.disproof
