@@ -1,0 +1,6 @@
+pub mod Elements
+pub mod Chapters
+pub mod Layouts
+pub mod Words
+pub mod Pictures
+pub mod Reading
