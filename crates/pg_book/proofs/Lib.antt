@@ -1,0 +1,5 @@
+pub mod Rows
+pub mod Before
+pub mod Nodes
+pub mod Members
+pub mod Wholes

@@ -1,0 +1,7 @@
+pub mod Boards
+pub mod Scenes
+pub mod Showing
+pub mod Origins
+pub mod Sentences
+pub mod Books
+pub mod Laws

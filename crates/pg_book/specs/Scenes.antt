@@ -1,0 +1,56 @@
+-- What is to be seen on a page: the board of a node, with what its body names.
+use Rattle.std.specs.Prelude.{ℕ, List, [], ◌∷◌, ◌++◌, Some, None}
+use Rattle.std.specs.List.{flat_map}
+use Rattle.std.specs.FinSet.{empty}
+use Rattle.pg_base.specs.declared.side.Side.{Side}
+use Rattle.pg_base.specs.declared.side.Side.TheVariants.{X}
+use Rattle.pg_cert.specs.Node.{position_of}
+use Rattle.pg_cert.specs.declared.node.Node.{Node}
+use Rattle.pg_draw.specs.Pictures.{picture_of}
+use Rattle.pg_game.specs.Game.{lines_of, point_count}
+use Rattle.pg_game.specs.declared.game.Game.{Game}
+use Rattle.pg_picture.specs.declared.picture.Picture.{Picture}
+use Rattle.pg_scene.specs.Items.{body_items, fault_items, line_items, point_items}
+use Rattle.pg_scene.specs.declared.board.Board.{Board}
+use Rattle.pg_scene.specs.declared.item.Item.{Item}
+use Rattle.pg_scene.specs.declared.item.Item.TheVariants as items
+use Rattle.pg_scene.specs.declared.scene.Scene.{Scene}
+use Rattle.pg_book.specs.Boards.{board_of}
+
+-- ---- items
+
+-- the items of a node's scene that its page shows: points with marks, pairs, weights, steps and the
+-- members of sets. The board without marks is behind them all. Lines hide what is under them, and
+-- moves and replies are links.
+abbrev pub kept : Item → List Item
+kept (items.Point v (Some side)) = items.Point v (Some side) ∷ []
+kept (items.Pair v w number) = items.Pair v w number ∷ []
+kept (items.Weight v weight) = items.Weight v weight ∷ []
+kept (items.Step v number) = items.Step v number ∷ []
+kept (items.Member v set) = items.Member v set ∷ []
+kept (items.Extra set) = items.Extra set ∷ []
+kept _ = []
+
+-- the items of a node
+abbrev pub node_items : Game → Side → Node → List Item
+node_items g side node = point_items (point_count g) (position_of node) ++ (line_items (lines_of g)
+    ++ (body_items g (position_of node) side node.body ++ fault_items None))
+
+-- the points of a game without marks
+abbrev pub blank_items : Game → List Item
+blank_items g =
+    point_items (point_count g) (record { x = empty; y = empty; turn = X; left = 1 })
+
+-- ---- scenes
+
+-- the scene of a board on which these items are to be seen
+abbrev pub scene_by : Board → List Item → Scene
+scene_by board items = record { title = []; board = board; items = items; legend = [] }
+
+-- the scene of a node's page
+abbrev pub page_scene : Game → Side → Node → Scene
+page_scene g side node = scene_by (board_of g.field) (flat_map kept (node_items g side node))
+
+-- the picture of a game's board without marks
+abbrev pub blank_picture : Game → Picture
+blank_picture g = picture_of (scene_by (board_of g.field) (blank_items g))

@@ -1,0 +1,17 @@
+//! Certificates as books: a page of HTML without script, in which each node of a claim is a section
+//! with its picture, a sentence, and links to what follows.
+#![tactic(auto)]
+
+mod book;
+mod front;
+mod laws;
+mod origins;
+mod scenes;
+mod sections;
+mod sentences;
+mod sheet;
+
+pub use book::print_book;
+pub use front::{LEGEND, MAX_SECTIONS, TITLE};
+pub use laws::{books_are_whole, links_lead_to_sections, nodes_have_pages, nodes_have_sections};
+pub use sheet::STYLE;
