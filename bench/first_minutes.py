@@ -179,15 +179,24 @@ def draws() -> str:
         Case([BOARD, PAIRS, "1"], 2, "words: no such node\n", "there is no such node"),
         Case([FAULTY], 3, "game G3 line 1\n", "line 1: .* .G3."),
         Case(["none"], 5, "", "none: "),
+        Case(["--book", BOARD], 2, "words: no meaning\n", "CERT"),
+        Case(["--book", BOARD, FAULTY], 4, "rejected J6 claim 0 node 0\n",
+             "a-pair-missing.cert', claim 0, node 0: .* .J6."),
+        Case(["--book", FAULTY, FAULTY], 3, "game G3 line 1\n", "line 1: .* .G3."),
+        Case(["--book", "examples/triangle-connectivity.game", "none"], 2,
+             "words: no book of this kind of game\n", "no books of games of this kind"),
+        Case(["--book", BOARD, "none"], 5, "", "none: "),
     ):
         try_case(script, case)
+    book = run(script, ["--book", BOARD, PAIRS])
+    expect(book.returncode == 0 and book.stdout.startswith("<!DOCTYPE html>"), "no book")
     helped = run(script, ["--help"])
     expect(helped.returncode == 0 and "C.K" in helped.stdout, f"--help: {helped}")
     told = run(script, ["--version"]).stdout
     expect(bool(re.fullmatch(r"posgame-draw [0-9.]*\n", told)), f"--version: {told!r}")
     expect(run(DRAWS, ["--version"]).stdout == told, "the program names another version")
     expect(run(DRAWS, ["--help"]).returncode == 0, "the program has no --help")
-    return "9 runs"
+    return "15 runs"
 
 
 def settles(script: pathlib.Path, room: pathlib.Path) -> int:

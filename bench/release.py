@@ -213,10 +213,11 @@ def manual(_: pathlib.Path) -> list[str]:
     problems += differs(
         "calls of posgame.1", [it for it in synopsis("posgame.1") if it[7] == " "], usage
     )
-    drawing = re.findall(r"^    (posgame-draw GAME.*)$", text_of("docs/FORMATS.md"), re.MULTILINE)
-    problems += [] if len(drawing) == 4 else ["docs/FORMATS.md shows other calls of posgame-draw"]
+    drawing = re.findall(r"^    (posgame-draw .*)$", text_of("docs/FORMATS.md"), re.MULTILINE)
+    problems += [] if len(drawing) == 5 else ["docs/FORMATS.md shows other calls of posgame-draw"]
     problems += differs(
-        "calls of posgame-draw.1", synopsis("posgame-draw.1"), ["posgame-draw GAME [CERT [NODE]]"]
+        "calls of posgame-draw.1", synopsis("posgame-draw.1"),
+        ["posgame-draw GAME [CERT [NODE]]", "posgame-draw --book GAME CERT"],
     )
     called = r"^    (posgame-settle .*(?:\n {8,}\[.*)*)$"
     found = re.findall(called, text_of("docs/FORMATS.md"), re.MULTILINE)
@@ -271,6 +272,9 @@ COMPLETIONS = (
     ("posgame check wheel.game x.cert ", ""),
     ("posgame-draw tippy-c", "tippy-corner.game"),
     ("posgame-draw wheel.game tippy-by", "tippy-by-its-corner.cert"),
+    ("posgame-draw --b", "--book"),
+    ("posgame-draw --book tippy-c", "tippy-corner.game"),
+    ("posgame-draw --book wheel.game tippy-by", "tippy-by-its-corner.cert"),
     ("posgame-settle tippy-c", "tippy-corner.game"),
     ("posgame-settle --nodes 50 wheel.game tippy-by", "tippy-by-its-corner.cert"),
     ("posgame-settle --entries = 9 wheel.game x.cert ", ""),

@@ -15,7 +15,8 @@ indented blocks of a lesson:
 - "$ ./posgame-settle ARGUMENTS" is run in the same way; all lines below `moves` are its output;
 - "$ echo $?" must print the exit status of the run before it;
 - "$ ./posgame-draw ARGUMENTS > FILE" is run if --draw names that program. If an image follows
-  the block, FILE must equal it, to the byte.
+  the block, FILE must equal it, to the byte; that of a book (--book) is a photograph, and isn't
+  compared.
 
 It also checks the form of each lesson, and that docs/TUTORIAL.md lists all in order. Unproved.
 """
@@ -68,7 +69,7 @@ class Walk:
         self.compare(command, ended.stdout.splitlines() == expected)
 
     def draw(self, command: str, image: str) -> None:
-        """Draws a picture, and compares it with the image, if there is one."""
+        """Draws a picture, and compares it with the image, if there is one; or prints a book."""
         if self.picture is None:
             self.not_drawn += 1
             return
@@ -76,9 +77,11 @@ class Walk:
         ended = kit.call(self.picture, *words[1:-2], cwd=self.folder, text=False)
         (self.folder / words[-1]).write_bytes(ended.stdout)
         self.status = ended.returncode
-        is_picture = ended.stdout.startswith(b"<svg ") and ended.returncode in (0, 4)
-        is_same = not image or (LESSONS / image).read_bytes() == ended.stdout
-        self.compare(command, words[-2] == ">" and is_picture and is_same)
+        is_book = "--book" in words
+        begins = b"<!DOCTYPE html>" if is_book else b"<svg "
+        is_whole = ended.stdout.startswith(begins) and ended.returncode in (0, 4)
+        is_same = is_book or not image or (LESSONS / image).read_bytes() == ended.stdout
+        self.compare(command, words[-2] == ">" and is_whole and is_same)
 
     def try_commands(self, text: str, image: str) -> None:
         """Runs the commands of a block."""

@@ -119,10 +119,18 @@ _posgame_moves() {
 }
 
 _posgame_draw() {
+    local current=${COMP_WORDS[COMP_CWORD]} first=1
     COMPREPLY=()
-    case $COMP_CWORD in
-        1) _posgame_files game "${COMP_WORDS[1]}" ;;
-        2) _posgame_files cert "${COMP_WORDS[2]}" ;;
+    [ "${COMP_WORDS[1]}" = --book ] && ((COMP_CWORD > 1)) && first=2
+    case $((COMP_CWORD - first)) in
+        0)
+            if [[ $current == -* ]]; then
+                _posgame_words --book "$current"
+            else
+                _posgame_files game "$current"
+            fi
+            ;;
+        1) _posgame_files cert "$current" ;;
     esac
 }
 

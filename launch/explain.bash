@@ -39,9 +39,15 @@ split_words() {
     done
 }
 
-# Sets what `read_words` sets, for posgame-draw, whose words are names and perhaps a node.
+# Sets what `read_words` sets, for posgame-draw, whose words are names and perhaps a node, or two
+# names with --book.
 read_draw_words() {
     COMMAND='' FAMILY='' GAME='' OTHER=''
+    if [[ " $* " == *' --book '* ]]; then
+        split_words '' ' --book ' "$@" || return 0
+        ((${#POSITIONALS[@]} == 2)) && COMMAND=book GAME=${POSITIONALS[0]} OTHER=${POSITIONALS[1]}
+        return 0
+    fi
     (($# >= 1 && $# <= 3)) || return 0
     COMMAND=draw GAME=$1 OTHER=${2-}
     local number='(0|[1-9][0-9]{0,8})'
@@ -311,8 +317,8 @@ ask_again() {
     is_rereadable "$GAME" && ((TICKS - BUILDING_TICKS <= 200)) || return
     [[ $STATUS == 3 ]] || is_rereadable "$OTHER" || return
     case $COMMAND:$STATUS in
-        draw:3) words=("$GAME") ;;
-        draw:4) words=("$@") ;;
+        draw:3 | book:3) words=("$GAME") ;;
+        draw:4 | book:4) words=("$@") ;;
         moves:3) words=(moves --positions 1 -- "$GAME") ;;
         settle:3) words=(--positions 1 -- "$GAME" /dev/null) ;;
         review:3) words=(review --positions 1 -- "$GAME" /dev/null) ;;

@@ -12,5 +12,6 @@ mod telling;
 
 pub use board::Board;
 pub use name::{DOT, NodeName};
+pub use opening::open_board;
 pub use picturing::{NO_NODE, Telling};
-pub use running::draw;
+pub use running::{draw, end_with};

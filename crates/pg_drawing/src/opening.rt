@@ -54,7 +54,7 @@ fn read_board(alloc: Global, text: &[u8]) -> Result<Board, FileError>
 }
 
 /// The game under this name.
-pub(crate) fn open_board<F: Files>(alloc: Global, files: &mut F, name: &str) -> Result<Board, Halt>
+pub fn open_board<F: Files>(alloc: Global, files: &mut F, name: &str) -> Result<Board, Halt>
     ensures opened { Opens board_entry board_held (F.told files.old).held name.now result }
     ensures halts { IfErr result IsGameHalt }
     ensures causes { HaltCauses (IsAbsent (F.told files.old).held name.now)

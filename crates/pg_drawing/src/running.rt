@@ -11,7 +11,7 @@ use pg_talk::{Halt, say_text};
 use std::alloc::Global;
 
 /// Says a text, and gives the status that goes with it.
-fn end_with<C: Console>(console: &mut C, text: &str, status: u8) -> u8
+pub fn end_with<C: Console>(console: &mut C, text: &str, status: u8) -> u8
     ensures { EndsWith text.now status (C.told console.old) (C.told console.new) result }
 {
     match say_text(console, text) {

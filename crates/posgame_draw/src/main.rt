@@ -1,15 +1,19 @@
-//! The program: it draws what the words of its command line ask for, and ends with a status.
+//! The program: it prints the picture or the book that its arguments ask for, and exits with a
+//! status.
 #![tactic(auto)]
 
 mod complaint;
 mod usage;
 
+use clap::Error;
+use pg_binding::bind;
 use pg_drawing::draw;
 use pg_host::{HostConsole, HostFiles, guard_streams};
 use pg_messages::{DONE, NO_MEMORY, NO_WORDS};
 use std::env;
 use std::io::ErrorKind;
 use std::process::ExitCode;
+use usage::{Asked, is_option};
 
 /// Returns the words of the command line after the program's name, or the status without them.
 fn words_given(rt: &HostRuntime) -> Result<Vec<String>, u8> {
@@ -29,11 +33,22 @@ fn words_given(rt: &HostRuntime) -> Result<Vec<String>, u8> {
     Ok(words)
 }
 
-/// Draws what the words ask for, and returns the status.
-fn run(rt: &HostRuntime, words: &[String]) -> u8 {
+/// Returns the words by which a picture is drawn: none if they ask for a book that `clap` refuses.
+fn picture_words(words: &[String]) -> &[String] {
+    if words.iter().any(|word| is_option(word.as_str())) {
+        return &words[..0];
+    }
+    words
+}
+
+/// Prints what the words ask for, and returns the status.
+fn run(rt: &HostRuntime, words: &[String], answer: &Result<Asked<'_>, Error>) -> u8 {
     let mut files = HostFiles::new(rt);
     let mut console = HostConsole::new(rt);
-    draw(rt.alloc(), words, &mut files, &mut console)
+    match answer {
+        Ok(Asked::Book(order)) => bind(rt.alloc(), *order, &mut files, &mut console),
+        _ => draw(rt.alloc(), picture_words(words), &mut files, &mut console),
+    }
 }
 
 fn main(rt: HostRuntime) -> ExitCode {
@@ -42,14 +57,14 @@ fn main(rt: HostRuntime) -> ExitCode {
         Ok(words) => words,
         Err(status) => return ExitCode::from(status),
     };
-    let answer = usage::answer(rt.alloc(), &words);
-    if let Some(error) = &answer {
+    let answer = usage::read_words(rt.alloc(), &words);
+    if let Err(error) = &answer {
         if !error.use_stderr() {
             let _ = error.print(&rt);
             return ExitCode::from(DONE);
         }
     }
-    let status = run(&rt, &words);
+    let status = run(&rt, &words, &answer);
     complaint::say(&rt, status, &words, answer);
     ExitCode::from(status)
 }

@@ -1,0 +1,3 @@
+mod Common
+pub mod Found
+pub mod Causes

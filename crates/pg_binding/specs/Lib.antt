@@ -1,0 +1,4 @@
+pub mod Prelude
+pub mod Books
+pub mod Due
+pub mod Runs
