@@ -1,0 +1,4 @@
+pub mod Pieces
+pub mod Widths
+pub mod Kept
+pub mod ReadBack

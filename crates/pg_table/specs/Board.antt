@@ -1,0 +1,39 @@
+-- THE TEXT OF A BOARD: a function of the game, the position and the point claimed last.
+use Rattle.std.specs.Prelude.{ℕ, ◌++◌, [], Option, Some, None}
+use Rattle.pg_base.specs.Texts.{Bytes}
+use Rattle.pg_base.specs.declared.grid.Grid.{Grid}
+use Rattle.pg_game.specs.declared.field.Field.{Field}
+use Rattle.pg_game.specs.declared.field.Field.TheVariants.{Lines, Graph as OnGraph}
+use Rattle.pg_game.specs.declared.game.Game.{Game}
+use Rattle.pg_table.specs.Entries.{entries_text}
+use Rattle.pg_table.specs.Grids.{grid_text}
+use Rattle.pg_table.specs.OpenLines.{lines_text}
+use Rattle.pg_table.specs.declared.shown.Shown.{Shown}
+
+-- a field of so many points: a grid of cells, or entries in rows
+abbrev pub points_picture : Game → Shown → ℕ → Option Grid → Bytes
+points_picture g s points (Some grid) = grid_text grid.width points s
+points_picture g s points None = entries_text g s
+
+abbrev pub field_picture : Game → Shown → Field → Bytes
+field_picture g s (Lines f) = points_picture g s f.points f.grid
+field_picture g s (OnGraph h) = entries_text g s
+
+abbrev pub picture_text : Game → Shown → Bytes
+picture_text g s = field_picture g s g.field
+
+-- the lines that are open, if the game is on lines of points that are no cells
+abbrev pub lines_beside : Game → Shown → Option Grid → Bytes
+lines_beside g s (Some grid) = []
+lines_beside g s None = lines_text g s.position None
+
+abbrev pub open_on : Game → Shown → Field → Bytes
+open_on g s (Lines f) = lines_beside g s f.grid
+open_on g s (OnGraph h) = []
+
+abbrev pub open_text : Game → Shown → Bytes
+open_text g s = open_on g s g.field
+
+-- the text of a board
+abbrev pub board_text : Game → Shown → Bytes
+board_text g s = picture_text g s ++ open_text g s

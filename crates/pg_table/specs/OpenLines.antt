@@ -1,0 +1,53 @@
+-- The lines that are still open.
+use Rattle.std.specs.Prelude.{ℕ, ◌++◌, ◌==◌, ◌&&◌, Bool, true, not, nat_lt, if◌then◌else◌, List}
+use Rattle.std.specs.Prelude.{[], length, take, filter, codes, decimal, Option, Some, None}
+use Rattle.std.specs.List.{flat_map, list_any, count_by}
+use Rattle.pg_base.specs.Texts.{Bytes}
+use Rattle.pg_base.specs.declared.kind.Kind.{Kind}
+use Rattle.pg_base.specs.declared.kind.Kind.TheVariants.{MakerMaker}
+use Rattle.pg_game.specs.Game.{is_touched, lines_of}
+use Rattle.pg_game.specs.declared.field.Field.{Field}
+use Rattle.pg_game.specs.declared.game.Game.{Game}
+use Rattle.pg_game.specs.declared.position.Position.{Position}
+use Rattle.pg_table.specs.Names.{point_name}
+use Rattle.pg_table.specs.declared.open_lines.TheConstants.{MAX_SHOWN_LINES}
+
+-- whether a line can still be filled: in Maker-Maker it lacks the points of one side, else those of
+-- O
+abbrev pub is_open : Kind → Position → List ℕ → Bool
+is_open MakerMaker p line = not (is_touched p.y line && is_touched p.x line)
+is_open _ p line = not (is_touched p.y line)
+
+-- whether a line has the point, if one is asked for
+abbrev pub passes : Option ℕ → List ℕ → Bool
+passes None line = true
+passes (Some v) line = list_any (λ w. w == v) line
+
+-- whether a line is open and has the point, if one is asked for
+abbrev pub is_kept : Kind → Position → Option ℕ → List ℕ → Bool
+is_kept kind p through line = passes through line && is_open kind p line
+
+-- the open lines that have the point, if one is asked for
+abbrev pub kept_lines : Game → Position → Option ℕ → List (List ℕ)
+kept_lines g p through = filter (is_kept g.kind p through) (lines_of g)
+
+-- the names of a line's points
+unfoldable pub line_text : Field → List ℕ → Bytes
+line_text field line = flat_map (λ v. codes " " ++ point_name field v) line ++ codes "\n"
+
+-- the first of these lines, and whether there are more
+abbrev pub first_lines : Field → List (List ℕ) → Bytes
+first_lines field lines = flat_map (line_text field) (take MAX_SHOWN_LINES lines)
+    ++ (if nat_lt MAX_SHOWN_LINES (length lines) then codes " ..\n" else [])
+
+unfoldable pub shown_lines : Game → Position → Option ℕ → Bytes
+shown_lines g p through = first_lines g.field (kept_lines g p through)
+
+-- how many lines are open
+unfoldable pub count_text : ℕ → Bytes
+count_text count = codes "open lines: " ++ (decimal count ++ codes "\n")
+
+-- how many lines are open, and the first of them
+abbrev pub lines_text : Game → Position → Option ℕ → Bytes
+lines_text g p through =
+    count_text (count_by (is_kept g.kind p through) (lines_of g)) ++ shown_lines g p through

@@ -1,0 +1,46 @@
+//! The text of a board.
+ghost use Rattle.std.specs.Prelude.{◌≡◌, ◌++◌, OnOk, string_bytes};
+ghost use Rattle.pg_table.specs.Board.{board_text, open_text, picture_text};
+
+use crate::entries::put_entries;
+use crate::grid::put_grid;
+use crate::open_lines::put_lines;
+use crate::shown::Shown;
+use pg_game::{Field, Game};
+use std::alloc::AllocError;
+
+/// Adds the picture of a board: a grid of cells, or entries in rows.
+fn put_picture(out: &mut String, game: &Game, shown: &Shown) -> Result<(), AllocError>
+    ensures { OnOk result (string_bytes out.new
+        ≡ string_bytes out.old ++ picture_text game.now shown.now) }
+{
+    if let Field::Lines(field) = &game.field {
+        if let Some(grid) = field.grid {
+            return put_grid(out, grid.width, field.points, shown);
+        }
+    }
+    put_entries(out, game, shown)
+}
+
+/// Adds the lines that are open, if the game is on lines of points that are no cells.
+fn put_open(out: &mut String, game: &Game, shown: &Shown) -> Result<(), AllocError>
+    ensures { OnOk result (string_bytes out.new
+        ≡ string_bytes out.old ++ open_text game.now shown.now) }
+{
+    match &game.field {
+        Field::Lines(field) if field.grid.is_none() => {
+            put_lines(out, game, &shown.position, None)
+        }
+        _ => Ok(()),
+    }
+}
+
+/// Adds the text of a board: its points with their marks, and the lines that are open if the points
+/// are no cells. An error means that memory ran out.
+pub fn put_board(out: &mut String, game: &Game, shown: &Shown) -> Result<(), AllocError>
+    ensures { OnOk result (string_bytes out.new
+        ≡ string_bytes out.old ++ board_text game.now shown.now) }
+{
+    put_picture(out, game, shown)?;
+    put_open(out, game, shown)
+}

@@ -1,0 +1,20 @@
+//! A board as it is shown on a terminal, and what a line typed at it means.
+#![tactic(auto)]
+
+mod board;
+mod entries;
+mod grid;
+pub mod laws;
+mod marks;
+mod names;
+mod open_lines;
+mod reply;
+mod shown;
+mod words;
+
+pub use board::put_board;
+pub use names::{LETTERS, put_name};
+pub use open_lines::{MAX_SHOWN_LINES, put_lines};
+pub use reply::{Reply, read_reply};
+pub use shown::{Look, Shown};
+pub use words::{COMMANDS, put_goals, put_help, put_result, put_turn};
