@@ -1,0 +1,3 @@
+mod Common
+pub mod Tests
+pub mod Within
