@@ -1,0 +1,4 @@
+pub mod Prelude
+pub mod Plans
+pub mod Telling
+pub mod Joins
