@@ -295,6 +295,15 @@ class Game:
         done = run("posgame-draw", words, {name: bytes_of(text) for name, text in files.items()})
         return done.text if done.text.startswith("<") else answer_of(done, []).text
 
+    def book(self, certificate: str) -> str:
+        """Returns a valid certificate as a book, by `posgame-draw --book`: one page of HTML, whose
+        sections are the positions of the proof, with pictures and links.
+
+        A certificate that is not valid raises Rejected, and a game that has no book RunFailed.
+        """
+        files = {"GAME": bytes_of(self.text), "CERT": bytes_of(certificate)}
+        return answer_of(run("posgame-draw", ["--book", "GAME", "CERT"], files), [0]).text
+
     def _repr_svg_(self) -> Optional[str]:
         return self.picture()
 

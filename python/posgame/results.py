@@ -76,6 +76,10 @@ class Solution:
         """Returns a node of the certificate as SVG (`Game.picture`), or the game without one."""
         return self.game.picture(self.certificate, node)
 
+    def book(self) -> str:
+        """Returns the certificate as a book, one page of HTML (`Game.book`)."""
+        return self.game.book(self._proof())
+
     def _repr_svg_(self) -> Optional[str]:
         return self.picture()
 

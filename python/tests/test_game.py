@@ -393,6 +393,28 @@ class Pictures(unittest.TestCase):
         self.assertIn("J6", str(bad))
 
 
+class Books(unittest.TestCase):
+    """Books by the second program, if it is found."""
+
+    def setUp(self) -> None:
+        if not is_there("posgame-draw"):
+            self.skipTest("posgame-draw is not found")
+
+    def test_sections(self) -> None:
+        solution = Game.from_lines([[0, 1], [2, 3]]).solve()
+        book = solution.book()
+        self.assertTrue(book.startswith("<!DOCTYPE html>"))
+        self.assertEqual(book.count("<section "), solution.nodes + 1)
+
+    def test_errors(self) -> None:
+        game = Game.from_lines([[0, 1]])
+        with self.assertRaises(Rejected) as raised:
+            game.book("posgame-cert 1\nclaim x y win\nnodes 1\n||x|pairs 0-0\n")
+        self.assertEqual(raised.exception.code, "J6")
+        with self.assertRaises(FileError):
+            game.book("posgame-cert 1\n")
+
+
 class Examples(unittest.TestCase):
     """The examples of the docstrings, and those of docs/PYTHON.md."""
 
