@@ -38,6 +38,7 @@ BENCHES = {
     "Searches for threat lines": "parts.py threat",
     "Searches for private pairs": "parts.py match",
     "Pictures of examples, and the largest ones": "pictures.py",
+    "Books played in Chromium": "pages.py",
     "Certificates with images": "images.py",
     "The lessons of docs/TUTORIAL.md":
         f"tutorial.py {kit.built('posgame')} --draw {kit.built('posgame_draw')} "
@@ -48,7 +49,7 @@ BENCHES = {
     "Certificates that reviews check": "checked.py",
 }
 # Those that are run by --long alone.
-LONG = {"real_files.py", "fuzz.py"}
+LONG = {"real_files.py", "fuzz.py", "pages.py"}
 # The longest that a bench may take, in seconds.
 LIMIT = 3600
 
