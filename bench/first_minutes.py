@@ -55,6 +55,8 @@ INSTALLED_COST = 5.0
 CHECKOUT_COST = 60.0
 FIRST_ANSWER = 90.0
 PROVE_MINUTES = 25.0
+# The programs which that limit is for.
+PROVE_PROGRAMS = ["posgame", "posgame-draw"]
 USAGE_LINES = 30
 UNIT, UNIT_SECONDS = "02ccea1", 53.0
 
@@ -658,14 +660,21 @@ def same_answers() -> str:
     return f"{len(rows)} calls, statuses {' '.join(map(str, sorted(met)))}"
 
 
+def proving(there: pathlib.Path, names: Words) -> float:
+    """Proves and builds these programs in a clone, or all; returns how many minutes it took."""
+    begun = time.perf_counter()
+    ended = subprocess.run([there / "prove", *names], stdin=subprocess.DEVNULL).returncode
+    minutes = (time.perf_counter() - begun) / 60
+    expect(ended == 0, f"status {ended} after {minutes:.1f} min, {load()}")
+    return minutes
+
+
 def prove_from_nothing() -> str:
-    """Proves and builds the programs in a clean clone."""
+    """Proves and builds the programs in a clean clone: those that have a limit, then the others."""
     with folder() as room:
-        there, begun = clean_clone(room), time.perf_counter()
-        ended = subprocess.run([there / "prove"], stdin=subprocess.DEVNULL).returncode
-        minutes = (time.perf_counter() - begun) / 60
-        told = f"after {minutes:.1f} min, {load()}"
-        expect(ended == 0, f"status {ended}, {told}")
+        there = clean_clone(room)
+        minutes, others = proving(there, PROVE_PROGRAMS), proving(there, [])
+        told = f"the others {others:.1f} min more, {load()}"
         for program in PROGRAMS.values():
             made = there / program.relative_to(TOP)
             expect(os.access(made, os.X_OK), f"no {made.name}")
