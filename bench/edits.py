@@ -5,9 +5,10 @@ tries those of crates/NAME/must-fail. Unproved.
 
     bench/edits.py [NAME..]
 
-Works on a copy of the files that git doesn't ignore, with these edits where `rt ci` looks for them.
-Each crate below those named is proved first, unless the toolchain has kept that. Prints what rt
-says of each edit that isn't as it must be, and its last lines; the status is 1 if there is one.
+Works on a copy of the files that git doesn't ignore, with these edits where `rt must-fail` looks
+for them, and with the libraries that are proved. Others below those named are proved first. Prints
+what rt says of each edit that isn't as it must be, and its last lines; the status is 1 if there is
+one.
 """
 from __future__ import annotations
 
@@ -23,7 +24,8 @@ EDITS = kit.TOP / "bench" / "edits"
 
 def tried(copy: pathlib.Path, names: list[str]) -> int:
     """Tries the edits of these crates in the copy, and returns 1 if one isn't refused."""
-    done = kit.call("sh", "-c", 'exec rt ci "$@" 2>&1', "rt", *names, cwd=copy, errors="replace")
+    command = 'exec rt must-fail "$@" 2>&1'
+    done = kit.call("sh", "-c", command, "rt", *names, cwd=copy, errors="replace")
     lines = [*filter(None, map(str.strip, done.stdout.splitlines()))]
     print(*lines[-3:], sep="\n")
     wrong = filter(re.compile("BAD EDIT|NOT TRIED|NOT REFUSED").search, lines)
@@ -40,6 +42,8 @@ def main() -> int:
         for file in width.tracked():
             (copy / file).parent.mkdir(parents=True, exist_ok=True)
             shutil.copy2(kit.TOP / file, copy / file)
+        for kept in kit.TOP.glob("crates/*/out/rlib"):
+            shutil.copytree(kept, copy / kept.relative_to(kit.TOP))
         kit.call("git", "init", "-q", cwd=copy, check=True)
         for name in names:
             must_fail = copy / "crates" / name / "must-fail"
