@@ -120,31 +120,6 @@ fn search_answer<W: Watch>(
     }
 }
 
-/// Searches the claimer's other moves, so that the claim of the answer may be smaller; but not in
-/// Maker-Maker, where moves take long to judge.
-fn search_wider<W: Watch>(
-    alloc: Global,
-    asked: Asked<'_>,
-    answer: bool,
-    board: &mut Board<'_>,
-    cache: &mut PairCache,
-    search: &mut Search,
-    watch: &mut W,
-) -> Result<(), Memory>
-    requires reads { IsRead asked.game.now asked.question board.old cache.old }
-    requires few { search.old.expanded ≤ asked.limits.positions }
-    ensures game { board.new.game ≡ board.old.game }
-    ensures fits { Fits cache.new (lines_of asked.entry.game.now) }
-    ensures most { most_of search.new.table ≡ most_of search.old.table }
-    ensures few { search.new.expanded ≤ asked.entry.limits.positions }
-{
-    if asked.game.kind != Kind::MakerMaker {
-        widen(alloc, asked, claimer(answer), board, cache, search, watch)?;
-        go_up_to(board, 0);
-    }
-    Ok(())
-}
-
 /// Searches from the position of the board, at which no play stands: for the answer, and then for a
 /// smaller claim.
 fn search_from<W: Watch>(
@@ -165,7 +140,8 @@ fn search_from<W: Watch>(
     let Some(answer) = search_answer(alloc, asked, board, cache, search, watch)? else {
         return Ok(None);
     };
-    search_wider(alloc, asked, answer, board, cache, search, watch)?;
+    widen(alloc, asked, claimer(answer), board, cache, search, watch)?;
+    go_up_to(board, 0);
     Ok(Some(answer))
 }
 
@@ -235,9 +211,10 @@ fn settle_with<W: Watch>(
 /// the greatest and four times the logarithm of how many there are to the base 2. A first number is
 /// eight times the ratio of what the lines weigh to what they weigh at the game's position, or the
 /// other way round. The best move is followed until its number is beyond the second one by more
-/// than a quarter. Once the answer is known, the claimer's other moves are searched for a while,
-/// but in Maker-Maker. Of the moves that win the claim has one to a position that it has already,
-/// or else the one whose tree is least; and a position once.
+/// than a quarter. Once the answer is known, the claimer's other moves are searched for a while, in
+/// Maker-Maker only the first moves, and only if the tree is large. Of the moves that win the claim
+/// has one to a position that it has already, or else the one whose tree is least; and a position
+/// once.
 ///
 /// A claim is within the limits of version 1 of the format, so the checker may be asked. That it is
 /// valid no clause says. `watch` is told now and then how far the search is.

@@ -6,7 +6,7 @@ ghost use Rattle.pg_dfpn.specs.Asking.{IsRead};
 use crate::descent::{STEPS_A_NOTE, Search, descend, met, progress_of};
 use crate::judging::Asked;
 use crate::moving::{go_up_to, play_free, undo_last};
-use pg_base::{Memory, Side};
+use pg_base::{Kind, Memory, Side};
 use pg_board::Board;
 use pg_limits::{Unwatched, Watch};
 use pg_match::PairCache;
@@ -16,8 +16,18 @@ use std::alloc::Global;
 /// How many entries the table may have while other moves are searched.
 const WIDE_ENTRIES: u32 = 800_000;
 
-/// How many positions may be expanded for a move.
+/// How many positions may be expanded for a move, but in Maker-Maker.
 const MOVE_POSITIONS: u32 = 2_000;
+
+/// How many positions may be expanded for a move in Maker-Maker, where moves take long to judge.
+const MAKER_MAKER_POSITIONS: u32 = 100;
+
+/// After how many moves of the game no further moves are searched in Maker-Maker.
+const MAKER_MAKER_PLAYS: usize = 2;
+
+/// How many nodes the tree of the answer has, at least, if further moves are searched in
+/// Maker-Maker.
+const MAKER_MAKER_TREE: u32 = 55_000;
 
 /// How many steps may be taken for each entry of the table: at a position one for each point.
 const ENTRY_STEPS: u64 = 512;
@@ -27,6 +37,24 @@ const ENTRY_STEPS: u64 = 512;
 fn is_spent(asked: Asked<'_>, search: &Search) -> bool {
     let entries = WIDE_ENTRIES.min(asked.limits.entries / 5 * 4);
     search.expanded >= asked.limits.positions || search.table.len() >= entries as usize
+}
+
+/// How many positions may be expanded for a move of the game.
+fn move_positions(kind: Kind) -> u32 {
+    match kind {
+        Kind::MakerMaker => MAKER_MAKER_POSITIONS,
+        _ => MOVE_POSITIONS,
+    }
+}
+
+/// Tests whether further moves are searched in a game of which the answer's tree has `size` nodes.
+fn is_large(kind: Kind, size: u32) -> bool {
+    kind != Kind::MakerMaker || size >= MAKER_MAKER_TREE
+}
+
+/// Tests whether further moves are searched at the position of the board.
+fn is_near(board: &Board<'_>) -> bool {
+    board.kind() != Kind::MakerMaker || board.plays() < MAKER_MAKER_PLAYS
 }
 
 /// A position on the way down.
@@ -69,7 +97,7 @@ fn try_move(
     let plays = board.plays();
     let most = search
         .expanded
-        .saturating_add(MOVE_POSITIONS)
+        .saturating_add(move_positions(asked.game.kind))
         .min(asked.limits.positions);
     descend(alloc, asked, most, board, cache, search, &mut Unwatched)?;
     go_up_to(board, plays);
@@ -140,7 +168,7 @@ fn step(
     let to = look.moves.each[look.done];
     look.done += 1;
     play_move(alloc, asked, claimer, &to, board, cache, search)?;
-    if !is_narrow(claimer, &to.key, &search.table) {
+    if !is_near(board) || !is_narrow(claimer, &to.key, &search.table) {
         undo_last(board);
         looks.push(look)?;
         return Ok(());
@@ -170,7 +198,8 @@ pub(crate) fn widen<W: Watch>(
     ensures few { search.new.expanded ≤ asked.entry.limits.positions }
 {
     let moves = Moves::at(alloc, asked.signatures, &board.position())?;
-    if !is_narrow(claimer, &moves.key, &search.table) {
+    let size = moves.survey(&search.table).numbers().size;
+    if !is_large(asked.game.kind, size) || !is_narrow(claimer, &moves.key, &search.table) {
         return Ok(());
     }
     let mut looks = Vec::new(alloc);
