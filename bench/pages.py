@@ -63,6 +63,7 @@ FOCUSED = "document.activeElement.getAttribute('href') || document.activeElement
 JUMPED = """new Promise(done => {
   const jump = () => {
     const link = document.querySelector('section:target a, .first a'), since = performance.now();
+    if (!link) return requestAnimationFrame(jump);
     link.dispatchEvent(new MouseEvent('click', {bubbles: true, cancelable: true}));
     requestAnimationFrame(() => requestAnimationFrame(() => done(performance.now() - since)));
   };
