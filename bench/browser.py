@@ -145,7 +145,8 @@ class Browser:
         self.profile = tempfile.TemporaryDirectory(ignore_cleanup_errors=True)
         flags = ["--headless=new", "--no-sandbox", "--disable-gpu", "--remote-debugging-port=0",
                  f"--window-size={self.size[0]},{self.size[1]}", "--no-first-run",
-                 "--disable-background-networking", f"--user-data-dir={self.profile.name}"]
+                 "--disable-background-networking", "--disable-ipc-flooding-protection",
+                 f"--user-data-dir={self.profile.name}"]
         self.process = subprocess.Popen([program, *flags, "about:blank"],
                                         stdout=subprocess.DEVNULL, stderr=subprocess.DEVNULL)
         port, path = self.read_port()
@@ -154,6 +155,7 @@ class Browser:
         found = self.call("Target.attachToTarget", targetId=target, flatten=True)
         self.session = found["sessionId"]
         self.call("Page.enable")
+        self.call("Page.setLifecycleEventsEnabled", enabled=True)
         self.call("Performance.enable", timeDomain="threadTicks")
         return self
 
@@ -188,9 +190,10 @@ class Browser:
                 return dict(found["result"])
             self.events.append(found)
 
-    def wait(self, event: str) -> None:
-        """Waits for an event of the page that comes after the last call of `forget`."""
-        while not any(it.get("method") == event for it in self.events):
+    def wait(self, event: str, **due: str) -> None:
+        """Waits for an event of the page with these parameters, after the last call of `forget`."""
+        while not any(it.get("method") == event and due.items() <= it["params"].items()
+                      for it in self.events):
             self.events.append(json.loads(self.socket.receive()))
 
     def forget(self) -> None:
@@ -208,8 +211,8 @@ class Browser:
     def open(self, address: str) -> float:
         """Opens a page, and returns the milliseconds until it was drawn."""
         self.forget()
-        self.call("Page.navigate", url=address)
-        self.wait("Page.loadEventFired")
+        loader = self.call("Page.navigate", url=address)["loaderId"]
+        self.wait("Page.lifecycleEvent", name="load", loaderId=loader)
         return self.settle()
 
     def settle(self) -> float:

@@ -32,12 +32,15 @@ import pathlib
 import re
 import shutil
 import subprocess
+import time
 from typing import Any, Iterator, NamedTuple
 
 import kit
 from browser import Browser
 
 LOAD, JUMP = 600, 100
+# How long the browser may take to go back, in seconds.
+PATIENCE = 10.0
 # The tags of HTML 5 and SVG that xmllint's list lacks.
 YOUNG = re.compile(r"Tag (section|header|main|summary|details|svg|rect|circle|line|text|g|title|"
                    r"foreignobject|foreignObject) invalid")
@@ -63,7 +66,6 @@ FOCUSED = "document.activeElement.getAttribute('href') || document.activeElement
 JUMPED = """new Promise(done => {
   const jump = () => {
     const link = document.querySelector('section:target a, .first a'), since = performance.now();
-    if (!link) return requestAnimationFrame(jump);
     link.dispatchEvent(new MouseEvent('click', {bubbles: true, cancelable: true}));
     requestAnimationFrame(() => requestAnimationFrame(() => done(performance.now() - since)));
   };
@@ -195,9 +197,9 @@ class Player:
 
     def came_back(self, page: str) -> list[str]:
         """Waits until the browser has gone back, and returns what is shown."""
-        for _ in range(200):
-            if self.shown() == [page]:
-                break
+        ends = time.monotonic() + PATIENCE
+        while self.shown() != [page] and time.monotonic() < ends:
+            self.browser.settle()
         return self.shown()
 
     def walk(self, way: str, root: str) -> int:
@@ -342,7 +344,8 @@ def play(player: Player, book: Book) -> tuple[int, int]:
 
 def book_text(program: str, game: str, cert: str) -> bytes:
     """Returns the book of files of examples/."""
-    return bytes(kit.call(program, "--book", game, cert, cwd=kit.EXAMPLES, text=False).stdout)
+    words = program, "--book", game, cert
+    return bytes(kit.call(*words, cwd=kit.EXAMPLES, text=False, check=True).stdout)
 
 
 def photograph(program: str, folder: pathlib.Path) -> int:
