@@ -129,6 +129,17 @@ def progressions(length: int, numbers: int) -> list[kit.Line]:
     return sorted(line for line in found if line[-1] < numbers)
 
 
+def modular(length: int, modulus: int) -> list[kit.Line]:
+    """Returns the arithmetic progressions of so many different numbers modulo a number.
+
+    >>> modular(3, 4)
+    [[0, 1, 2], [0, 1, 3], [0, 2, 3], [1, 2, 3]]
+    """
+    found = ({(first + step * k) % modulus for k in range(length)} for first in range(modulus)
+             for step in range(1, modulus))
+    return [[*line] for line in sorted({tuple(sorted(it)) for it in found if len(it) == length})]
+
+
 def plane(order: int, is_affine: bool) -> list[kit.Line]:
     """Returns the lines of the projective or the affine plane over the integers modulo a prime. A
     point is a nonzero vector of three entries whose first nonzero entry is 1; the affine plane
@@ -173,9 +184,16 @@ def paths(side: int) -> list[kit.Line]:
 # Generators: each yields the boards of a generator line.
 
 
-def on_points(kind: str, points: int, lines: Iterable[kit.Line]) -> str:
+def bias_rows(bias: int) -> list[str]:
+    """Returns the row of a bias, or none if it is 1."""
+    return [f"bias {bias}"] * (bias > 1)
+
+
+def on_points(kind: str, points: int, lines: Iterable[Iterable[int]], bias: int = 1,
+              turn: str = "x") -> str:
     """Returns the file of a game on points without places."""
-    return kit.game(kind, f"points {points}", *kit.line_rows(lines))
+    heads = f"points {points}", *bias_rows(bias)
+    return kit.game(kind, *heads, *kit.line_rows(lines), turn=turn)
 
 
 def squares(kind: str, side: int) -> Iterator[Board]:
@@ -191,7 +209,7 @@ def animals(kind: str, cells: int, side: int, bias: int = 1) -> Iterator[Board]:
         name = NAMES.get(word, word)
         file = re.sub("[ /]", "-", name)
         row = f"{name} `{word}`" if word in NAMES else f"`{word}`"
-        heads = [f"grid {side} {side}", *[f"bias {bias}"] * (bias > 1)]
+        heads = [f"grid {side} {side}", *bias_rows(bias)]
         text = kit.game(kind, *heads, f"shape {word}")
         yield Board(f"{file}-{side}x{side}", text, (row,), f"{side} by {side}")
 
@@ -218,12 +236,21 @@ def box_rows(count: int, size: int, bias: int) -> list[str]:
     ['points 4', 'bias 3', 'line 0 1', 'line 2 3']
     """
     lines = kit.line_rows(range(size * k, size * (k + 1)) for k in range(count))
-    return [f"points {count * size}", *[f"bias {bias}"] * (bias > 1), *lines]
+    return [f"points {count * size}", *bias_rows(bias), *lines]
 
 
 def boxes(kind: str, turn: str, count: int, size: int, bias: int) -> Iterator[Board]:
     """Boxes without common points, of which Y claims `bias` points a turn."""
     text = kit.game(kind, *box_rows(count, size, bias), turn=turn)
+    yield Board(f"{count}-of-{size}-bias-{bias}", text, (str(count), str(size)), f"{bias} a turn")
+
+
+def box_game(turn: str, count: int, size: int, bias: int) -> Iterator[Board]:
+    """Boxes of which Y fills one or X hits each: a line has a point of each box, and Y claims
+    `bias` points a turn."""
+    boxes_of = (range(size * k, size * (k + 1)) for k in range(count))
+    lines = itertools.product(*boxes_of)
+    text = on_points("maker-breaker", count * size, lines, bias, turn)
     yield Board(f"{count}-of-{size}-bias-{bias}", text, (str(count), str(size)), f"{bias} a turn")
 
 
@@ -260,10 +287,17 @@ def clique(kind: str, size: int, vertices: int) -> Iterator[Board]:
     yield Board(f"{size}-of-{vertices}-{kind}", text, (str(size), str(vertices)), kit.KINDS[kind])
 
 
-def progression(kind: str, length: int, numbers: int) -> Iterator[Board]:
-    """Arithmetic progressions among the first numbers."""
-    text = on_points(kind, numbers, progressions(length, numbers))
+def progression(kind: str, length: int, numbers: int, bias: int = 1) -> Iterator[Board]:
+    """Arithmetic progressions among the first numbers; Y claims `bias` of them a turn."""
+    text = on_points(kind, numbers, progressions(length, numbers), bias)
     yield Board(f"{length}-to-{numbers}-{kind}", text, (str(length), str(numbers)),
+                kit.KINDS[kind])
+
+
+def progression_modulo(kind: str, length: int, modulus: int) -> Iterator[Board]:
+    """Arithmetic progressions among the numbers modulo a number."""
+    text = on_points(kind, modulus, modular(length, modulus))
+    yield Board(f"{length}-modulo-{modulus}-{kind}", text, (str(length), str(modulus)),
                 kit.KINDS[kind])
 
 
@@ -283,8 +317,9 @@ def hex_board(kind: str, side: int) -> Iterator[Board]:
 
 GENERATORS: dict[str, Callable[..., Iterator[Board]]] = {
     "squares": squares, "animals": animals, "animal": animal, "in-row": in_row, "boxes": boxes,
-    "bridg-it": bridg_it, "complete": complete, "grid": grid, "cube": cube, "clique": clique,
-    "progression": progression, "plane": planes, "hex": hex_board,
+    "box-game": box_game, "bridg-it": bridg_it, "complete": complete, "grid": grid, "cube": cube,
+    "clique": clique, "progression": progression, "progression-modulo": progression_modulo,
+    "plane": planes, "hex": hex_board,
 }
 
 

@@ -10,6 +10,7 @@ import io
 import json
 import os
 import pathlib
+import re
 import sys
 import tempfile
 import unittest
@@ -51,6 +52,12 @@ def line(answer: str, result: str, **more: object) -> str:
                        **more})
 
 
+def filled(count: int, bias: int) -> int:
+    """Returns how many points so many boxes have, at most, of which the filler fills one if the
+    hitter begins, by the rule of Chvátal and Erdős."""
+    return 0 if count == 1 else count * (filled(count - 1, bias) + bias) // (count - 1)
+
+
 class Rows(unittest.TestCase):
     def test_there_and_back(self) -> None:
         for row in ROW, OPEN_ROW:
@@ -87,6 +94,14 @@ class Rows(unittest.TestCase):
         self.assertEqual(catalogue.known("progressions/4-to-9-maker-maker"), "not known to us")
         self.assertEqual(catalogue.known("connectivity/complete-3"), "first-mover: Lehman 1964")
         self.assertEqual(catalogue.known("connectivity/complete-12"), "maker: Lehman 1964")
+
+    def test_box_game(self) -> None:
+        self.assertEqual([filled(count, 2) for count in (1, 2, 3, 4, 5)], [0, 4, 9, 14, 20])
+        family, = families.chosen("box-game-hitter-begins")
+        for board in family.boards:
+            count, size, bias = map(int, re.findall(r"\d+", board.name))
+            due = "breaker" if count * size <= filled(count, bias) else "maker"
+            self.assertEqual(catalogue.known(board.key), f"{due}: Chvátal and Erdős 1978")
 
     def test_differences(self) -> None:
         same = dataclasses.replace(ROW, seconds=9.0, found_by="posgame 2.0.0")
@@ -287,7 +302,7 @@ class Stored(unittest.TestCase):
         out = families.FOLDER / "out"
         sizes = [it.stat().st_size for it in families.FOLDER.rglob("*")
                  if it.is_file() and out not in it.parents]
-        self.assertLess(sum(sizes), 2_000_000)
+        self.assertLess(sum(sizes), 1_400 * len(self.rows))
 
     def test_page(self) -> None:
         self.assertEqual(catalogue.PAGE.read_text(encoding="utf-8"), catalogue.page(self.rows))

@@ -74,6 +74,18 @@ class Lines(unittest.TestCase):
         self.assertEqual(len(families.cliques(4, 6)), 15)
         self.assertEqual({*map(len, families.cliques(4, 6))}, {6})
 
+    def test_modular(self) -> None:
+        # A pair of a middle and a step up to its sign, if the modulus is odd and 3 doesn't divide.
+        for modulus in 5, 7, 11:
+            self.assertEqual(len(families.modular(3, modulus)), modulus * (modulus - 1) // 2)
+        for length, modulus in (3, 6), (3, 8), (4, 9), (5, 12):
+            lines = {frozenset(line) for line in families.modular(length, modulus)}
+            self.assertEqual(len(lines), len(families.modular(length, modulus)))
+            self.assertEqual({len(line) for line in lines}, {length})
+            self.assertEqual({frozenset((at + 1) % modulus for at in line) for line in lines},
+                             lines)
+            self.assertLessEqual({*map(frozenset, families.progressions(length, modulus))}, lines)
+
     def test_paths_are_least(self) -> None:
         for side in 1, 2, 3, 4:
             lines = [*map(frozenset, families.paths(side))]
@@ -120,6 +132,31 @@ class Families(unittest.TestCase):
                          ("2-of-3-bias-1", ("2", "3"), "1 a turn"))
         self.assertEqual(lines_of(board.text), [[0, 1, 2], [3, 4, 5]])
         self.assertTrue(board.text.endswith("\nturn y\n"))
+
+    def test_box_game(self) -> None:
+        board, = families.generated("box-game y 2 2 3")
+        self.assertEqual((board.name, board.row, board.column),
+                         ("2-of-2-bias-3", ("2", "2"), "3 a turn"))
+        self.assertEqual(board.text, kit.game(
+            "maker-breaker", "points 4", "bias 3",
+            *kit.line_rows([(0, 2), (0, 3), (1, 2), (1, 3)]), turn="y"))
+        board, = families.generated("box-game x 3 2 1")
+        self.assertNotIn("bias", board.text)
+        # Of all points one side fills a line, or else the other a box.
+        for marks in itertools.product((False, True), repeat=6):
+            mine = {at for at in range(6) if marks[at]}
+            self.assertNotEqual(any({*line} <= mine for line in lines_of(board.text)),
+                                any(not {at, at + 1} & mine for at in (0, 2, 4)))
+
+    def test_progressions(self) -> None:
+        board, = families.generated("progression maker-breaker 3 5 2")
+        self.assertEqual((board.name, board.row), ("3-to-5-maker-breaker", ("3", "5")))
+        rows = kit.line_rows([(0, 1, 2), (0, 2, 4), (1, 2, 3), (2, 3, 4)])
+        self.assertEqual(board.text, kit.game("maker-breaker", "points 5", "bias 2", *rows))
+        board, = families.generated("progression-modulo maker-maker 3 4")
+        self.assertEqual((board.name, board.row, board.column),
+                         ("3-modulo-4-maker-maker", ("3", "4"), "Maker-Maker"))
+        self.assertEqual(lines_of(board.text), families.modular(3, 4))
 
     def test_options(self) -> None:
         stanza = ["family f", "title t", "about a", "known k", "rows r", "settle a-* --nodes 5",
