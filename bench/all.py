@@ -42,7 +42,9 @@ BENCHES = {
     "Certificates with images": "images.py",
     "The lessons of docs/TUTORIAL.md":
         f"tutorial.py {kit.built('posgame')} --draw {kit.built('posgame_draw')} "
-        f"--settle {kit.built('posgame_settle')}",
+        f"--settle {kit.built('posgame_settle')} --play {kit.built('posgame_play')}",
+    "Screens of games at a terminal": "table.py screens",
+    "Lines typed at a terminal": "table.py lines",
     "Files, names and consoles of the system that fail, and kills": "real_files.py",
     "Mutated files, words and dialogues": "fuzz.py --runs 20000",
     "Each allocation of 22 runs refused in turn": "memory.py",

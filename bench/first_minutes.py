@@ -40,8 +40,10 @@ TOP = pathlib.Path(__file__).resolve().parent.parent
 PROGRAM = TOP / "crates" / "posgame" / "out" / "posgame"
 DRAWS = TOP / "crates" / "posgame_draw" / "out" / "posgame_draw"
 SETTLES = TOP / "crates" / "posgame_settle" / "out" / "posgame_settle"
+PLAYS = TOP / "crates" / "posgame_play" / "out" / "posgame_play"
 # The programs by the names of their scripts.
-PROGRAMS = {"posgame": PROGRAM, "posgame-draw": DRAWS, "posgame-settle": SETTLES}
+PROGRAMS = {"posgame": PROGRAM, "posgame-draw": DRAWS, "posgame-settle": SETTLES,
+            "posgame-play": PLAYS}
 BOARD = "examples/noughts-and-crosses.game"
 PAIRS = "examples/breaker-in-the-centre.cert"
 FAULTY = "examples/a-pair-missing.cert"
@@ -240,6 +242,43 @@ def settled() -> str:
     expect(bool(re.fullmatch(r"posgame-settle [0-9.]*\n", told)), f"--version: {told!r}")
     expect(run(SETTLES, ["--version"]).stdout == told, "the program names another version")
     expect(run(SETTLES, ["--help"]).returncode == 0, "the program has no --help")
+    return f"{count + 4} runs"
+
+
+def plays(script: pathlib.Path, room: pathlib.Path) -> int:
+    """posgame-play by one of its scripts: its words, its faults, and what it stores."""
+    slip, record = "examples/rosette-with-a-slip.game", str(room / "P")
+    cases = [
+        Case([BOARD, "--record"], 2, "", "--record"),
+        Case([BOARD, "one-too-many"], 2, "", "one-too-many"),
+        Case([slip], 3, "game G6 line 4\n", "line 4: .* .G6.\n    line"),
+        Case(["none"], 5, "", "none: "),
+    ]
+    for case in cases:
+        try_case(script, case)
+    ended = run(script, [BOARD, "--record", record], input="b1\nnothing\n")
+    last = "recorded 1\n"
+    expect(ended.returncode == 0 and ended.stdout.endswith(last), f"a play: {ended}")
+    expect(not ended.stderr, f"a play: {ended.stderr!r}")
+    shown = run(TOP / "posgame", ["review", BOARD, record]).stdout
+    expect(shown == "reviewed 1\n", f"its record: {shown!r}")
+    ended = run(script, [BOARD, "--record", str(room / "none" / "P")])
+    said = re.search("warning: .*: there is no folder", ended.stderr)
+    expect(ended.returncode == 6 and said is not None, f"no folder: {ended}")
+    return len(cases) + 3
+
+
+def played() -> str:
+    """posgame-play in a checkout and installed, and the record that it stores."""
+    with folder() as room:
+        scripts = TOP / "posgame-play", install(room / "prefix").with_name("posgame-play")
+        count = sum(plays(it, room) for it in scripts)
+    helped = run(scripts[0], ["--help"])
+    expect(helped.returncode == 0 and "--record FILE" in helped.stdout, f"--help: {helped}")
+    told = run(scripts[0], ["--version"]).stdout
+    expect(bool(re.fullmatch(r"posgame-play [0-9.]*\n", told)), f"--version: {told!r}")
+    expect(run(PLAYS, ["--version"]).stdout == told, "the program names another version")
+    expect(run(PLAYS, ["--help"]).returncode == 0, "the program has no --help")
     return f"{count + 4} runs"
 
 
@@ -730,6 +769,7 @@ ROWS = [
     Row(3, "statuses, and what is said of them", answers),
     Row(3, "pictures, and what is said of them", draws),
     Row(3, "boards settled, and what is said of them", settled),
+    Row(3, "boards played, and what is said of them", played),
     Row(3, "texts of the codes", codes),
     Row(3, "usage", usage),
     Row(3, "odd names, and games from standard input", odd_names),

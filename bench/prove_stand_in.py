@@ -1,4 +1,4 @@
-"""Tries ./prove over a stand-in for the kit, in a checkout of seven crates.
+"""Tries ./prove over a stand-in for the kit, in a checkout of eight crates.
 
 A crate of the stand-in is proved in a fifth of a second, by two lines in the file `calls`: one as
 it begins and one as it ends. bench/first_minutes.py calls `row`. Nothing here is proved.
@@ -20,10 +20,11 @@ two: low one
 posgame: two
 posgame_draw: low
 posgame_settle: two
+posgame_play: one
 test_more: posgame
 """
-PROVED = {"low", "one", "two", "posgame", "posgame_draw", "posgame_settle"}
-LINE = r"prove: \d of 6 crates, \d+ min: (\w+) proved \(\d+ s\)"
+PROVED = {"low", "one", "two", "posgame", "posgame_draw", "posgame_settle", "posgame_play"}
+LINE = r"prove: \d of 7 crates, \d+ min: (\w+) proved \(\d+ s\)"
 LOGGED = r"^\d{4}-\d\d-\d\d \d\d:\d\d:\d\d (\w+) proved \d+ s$"
 RTLIB = '''
 import fcntl, os, shutil, sys, time

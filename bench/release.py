@@ -24,23 +24,25 @@ import time
 from typing import Callable, Mapping, Optional, Sequence, Union
 
 TOP = pathlib.Path(__file__).resolve().parent.parent
-PAGES = ("posgame.1", "posgame-draw.1", "posgame-settle.1", "posgame.5")
+PAGES = ("posgame.1", "posgame-draw.1", "posgame-settle.1", "posgame-play.1", "posgame.5")
 SCRIPTS = ("install", "package", "completions/posgame.bash")
 STARTERS = (
     "posgame",
     "posgame-draw",
     "posgame-settle",
+    "posgame-play",
     "posgame-why",
     "launch/posgame",
     "launch/posgame-draw",
     "launch/posgame-settle",
+    "launch/posgame-play",
 )
 CLUSTER = ("cluster/settle-one", "cluster/settle.sbatch", "cluster/try-slurm")
 APACHE = "cfc7749b96f63bd31c3c42b5c471bf756814053e847c10f3eb003417bc523d30"
 BARE = {"PATH": "/usr/bin:/bin"}
 EPOCH = "1700000000"
 CHANGED = r"^## (\S+) \((unreleased|\d{4}-\d\d-\d\d)\)$"
-PROGRAMS = ("posgame", "posgame_draw", "posgame_settle")
+PROGRAMS = ("posgame", "posgame_draw", "posgame_settle", "posgame_play")
 SECTIONS = (
     "Three minutes",
     "What it decides",
@@ -224,6 +226,8 @@ def manual(_: pathlib.Path) -> list[str]:
     settling = [" ".join(it.split()) for it in found]
     problems += [] if settling else ["docs/FORMATS.md shows no call of posgame-settle"]
     problems += differs("calls of posgame-settle.1", synopsis("posgame-settle.1"), settling)
+    playing = re.findall(r"^    (posgame-play .*)$", text_of("docs/FORMATS.md"), re.MULTILINE)
+    problems += differs("calls of posgame-play.1", synopsis("posgame-play.1"), playing)
     blocks = re.findall(r"\.Bd -literal.*\n(posgame[^.]*)\.Ed\n", text_of("man/posgame.5"))
     for name, block in zip(("noughts-and-crosses.game", "breaker-in-the-centre.cert"), blocks):
         problems += differs(name, text_of(f"examples/{name}"), block)
@@ -285,6 +289,12 @@ COMPLETIONS = (
     ("posgame-settle moves tippy-c", "tippy-corner.game"),
     ("posgame-settle moves tippy-corner.game --", "--entries --json --nodes --positions "
      "--progress"),
+    ("posgame-play tippy-c", "tippy-corner.game"),
+    ("posgame-play --record two-c", "two-children.record"),
+    ("posgame-play --record = two-c", "two-children.record"),
+    ("posgame-play --record x.record tippy-c", "tippy-corner.game"),
+    ("posgame-play wheel.game --", "--help --record --version"),
+    ("posgame-play wheel.game whe", ""),
 )
 
 
@@ -495,6 +505,7 @@ def serves(prefix: pathlib.Path, folder: pathlib.Path) -> list[str]:
         (["posgame-settle", game, "settled.cert"], "class first-mover\n", 0),
         (["posgame", "check", game, "settled.cert"], both, 0),
         (["posgame-settle", "missing.game", "settled.cert"], "", 5),
+        (["posgame-play", "missing.game"], "", 5),
     )
     problems = []
     for words, said, status in rows:
@@ -508,7 +519,7 @@ def serves(prefix: pathlib.Path, folder: pathlib.Path) -> list[str]:
 def shown(prefix: pathlib.Path, folder: pathlib.Path) -> list[str]:
     """Runs the commands that README.md and posgame(1) show, and compares what they print."""
     folder.mkdir()
-    for name in ("posgame", "posgame-draw", "posgame-settle", "posgame-why"):
+    for name in ("posgame", "posgame-draw", "posgame-settle", "posgame-play", "posgame-why"):
         (folder / name).symlink_to(prefix / "bin" / name)
     (folder / "examples").symlink_to(prefix / "share/doc/posgame/examples")
     page = text_of("man/posgame.1").replace("\n.Dl ", "\n")

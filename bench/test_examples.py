@@ -11,13 +11,18 @@ import families
 import lay_out
 import same_search
 import settling
+import table
 import theorem
+import tutorial
 import width
+
+SCRIPTS = (catalogue, checked, families, lay_out, same_search, settling, table, theorem, tutorial,
+           width)
 
 
 def load_tests(_: unittest.TestLoader, tests: unittest.TestSuite, __: object) -> unittest.TestSuite:
     """Adds the examples of each script."""
-    for script in catalogue, checked, families, lay_out, same_search, settling, theorem, width:
+    for script in SCRIPTS:
         tests.addTests(doctest.DocTestSuite(script))
     return tests
 

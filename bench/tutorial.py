@@ -1,7 +1,8 @@
 #!/usr/bin/env python3
 """Runs the lessons of docs/tutorial again, and compares what they show with what happens.
 
-    bench/tutorial.py [PROGRAM] [--draw PROGRAM] [--settle PROGRAM] [--lesson NUMBER]..
+    bench/tutorial.py [PROGRAM] [--draw PROGRAM] [--settle PROGRAM] [--play PROGRAM]
+                      [--lesson NUMBER]..
 
 Each lesson runs in a folder of its own, which contains nothing but a link to examples/. Of the
 indented blocks of a lesson:
@@ -13,6 +14,8 @@ indented blocks of a lesson:
   those that begin like a text of the program must be its output, in order. The others are its
   input. A line of JSON (of `report` and `--json`) may be broken;
 - "$ ./posgame-settle ARGUMENTS" is run in the same way; all lines below `moves` are its output;
+- "$ ./posgame-play ARGUMENTS" is run with what is shown after each "claims: " as its input; with
+  that, and without empty lines, its output must be the lines below;
 - "$ echo $?" must print the exit status of the run before it;
 - "$ ./posgame-draw ARGUMENTS > FILE" is run if --draw names that program. If an image follows
   the block, FILE must equal it, to the byte; that of a book (--book) is a photograph, and isn't
@@ -38,6 +41,7 @@ TEXTS = ("accepted ", "rejected ", "claim ", "move ", "refused: ", "result ", "c
          "reviewed ", "record ", "{")
 BLOCK = re.compile(r"(?:^(?!    )(.+)\n+)?((?:^    .*\n)+)(?=\n*(.*))", re.MULTILINE)
 NAMED = re.compile(r"(save it as )?`([^`]+\.(?:game|cert|record))`:$", re.IGNORECASE)
+PROMPT = re.compile(r"([XO] claims(?: \d+ points)?:) ?(.*)")
 IMAGE = re.compile(r"!\[.*\]\(([^)]+)\)$")
 LINK = re.compile(r"\]\(([^)#:]+)\)")
 ENTRY = re.compile(r"^(\d+)\. \[([^]]+)\]\(tutorial/([^)]+)\)", re.MULTILINE)
@@ -68,6 +72,16 @@ class Walk:
         self.status = ended.returncode
         self.compare(command, ended.stdout.splitlines() == expected)
 
+    def play(self, command: str, below: list[str]) -> None:
+        """Runs posgame-play with what is typed in these lines, and compares what a terminal
+        shows."""
+        typed = [found[2] for found in map(PROMPT.fullmatch, below) if found]
+        _, *words = shlex.split(command)
+        ended = kit.call(self.programs["./posgame-play"], *words, cwd=self.folder,
+                         input="".join(f"{line}\n" for line in typed if line))
+        self.status = ended.returncode
+        self.compare(command, shown_with(ended.stdout, typed) == below)
+
     def draw(self, command: str, image: str) -> None:
         """Draws a picture, and compares it with the image, if there is one; or prints a book."""
         if self.picture is None:
@@ -87,7 +101,9 @@ class Walk:
         """Runs the commands of a block."""
         for part in re.split(r"^\$ ", re.sub(r" \\\n +", " ", text), flags=re.MULTILINE)[1:]:
             command, *below = part.splitlines()
-            if command.split()[0] in self.programs:
+            if command.startswith("./posgame-play "):
+                self.play(command, below)
+            elif command.split()[0] in self.programs:
                 self.run(command, below)
             elif command.startswith("./posgame-draw "):
                 self.draw(command, image)
@@ -110,6 +126,17 @@ class Walk:
             path = self.folder / named[2]
             found = path.read_text(encoding="ascii") if path.is_file() else ""
             self.compare(named[2], re.sub("^#.*\n", "", found, flags=re.MULTILINE) == text)
+
+
+def shown_with(output: str, typed: list[str]) -> list[str]:
+    """Returns the lines that a terminal shows, without empty ones, if these lines are typed.
+
+    >>> shown_with("X claims: \\n . X \\nO claims: ", ["b1", ""])
+    ['X claims: b1', ' . X', 'O claims:']
+    """
+    parts = re.split(r"(?<= claims: )|(?<= points: )", output)
+    lines = "".join(f"{part}{line}\n" for part, line in zip(parts, [*typed, *[""] * len(parts)]))
+    return [line.rstrip() for line in lines.splitlines() if line.strip()]
 
 
 def form_problems(path: pathlib.Path) -> list[str]:
@@ -138,13 +165,16 @@ def main() -> int:
     words.add_argument("--draw", type=kit.program_path, metavar="PROGRAM", help="posgame-draw")
     words.add_argument("--settle", type=kit.program_path, metavar="PROGRAM", help="posgame-settle",
                        default=str(kit.TOP / "posgame-settle"))
+    words.add_argument("--play", type=kit.program_path, metavar="PROGRAM", help="posgame-play",
+                       default=str(kit.TOP / "posgame-play"))
     words.add_argument("--lesson", type=int, action="append", help="only lessons of this number")
     given = words.parse_args()
     paths = sorted(LESSONS.glob("*.md"))
     form = [it for path in [CONTENTS, *paths] for it in form_problems(path)]
     form += contents_problems(paths)
     chosen = [it for it in paths if not given.lesson or int(it.name[:2]) in given.lesson]
-    programs = {"./posgame": given.program, "./posgame-settle": given.settle}
+    programs = {"./posgame": given.program, "./posgame-settle": given.settle,
+                "./posgame-play": given.play}
     walks = []
     for path in chosen:
         with kit.files() as folder:

@@ -1,5 +1,5 @@
-# Completion of posgame, posgame-draw and posgame-settle for bash: commands, options, and files by
-# the ending of their names. bench/release.py tries it.
+# Completion of posgame, posgame-draw, posgame-settle and posgame-play for bash: commands, options,
+# and files by the ending of their names. bench/release.py tries it.
 
 # Adds the directories and the files named *.$1 that begin with $2 to COMPREPLY.
 _posgame_files() {
@@ -52,7 +52,7 @@ _posgame_read() {
     local at word
     for ((at = 1; at < COMP_CWORD; at++)); do
         word=${COMP_WORDS[at]}
-        if [[ $word == --@(side|positions|entries|nodes) ]]; then
+        if [[ $word == --@(side|positions|entries|nodes|record) ]]; then
             [ "${COMP_WORDS[at + 1]}" = = ] && at=$((at + 1))
             at=$((at + 1))
             ((at < COMP_CWORD)) || pending=$word
@@ -134,6 +134,22 @@ _posgame_draw() {
     esac
 }
 
+# The words of posgame-play are those of a command of posgame without its name.
+_posgame_play() {
+    local current=${COMP_WORDS[COMP_CWORD]} command=table place=0 pending=''
+    COMPREPLY=()
+    [ "$current" = = ] && current=''
+    _posgame_read
+    if [ -n "$pending" ]; then
+        _posgame_files record "$current"
+    elif [[ $current == -* ]]; then
+        _posgame_words '--record --help --version' "$current"
+    elif ((place == 0)); then
+        _posgame_files game "$current"
+    fi
+}
+
 complete -F _posgame posgame ./posgame
 complete -F _posgame_draw posgame-draw ./posgame-draw
 complete -F _posgame_settle posgame-settle ./posgame-settle
+complete -F _posgame_play posgame-play ./posgame-play

@@ -11,13 +11,13 @@
 # tells.
 # shellcheck shell=bash disable=SC2034,SC2153 # run.bash shares its variables
 
-# Sets `POSITIONALS`, `SIDE` and `OPTIONS` (a row of the options' names) by the words from the third
-# on; the first has the options with a value, the second those without, with blanks around each.
-# Fails where a word has no meaning wherever it stands.
+# Sets `POSITIONALS`, `SIDE`, `RECORD` and `OPTIONS` (a row of the options' names) by the words from
+# the third on; the first has the options with a value, the second those without, with blanks around
+# each. Fails where a word has no meaning wherever it stands.
 split_words() {
     local valued=$1 flags=$2 name
     shift 2
-    POSITIONALS=() SIDE='' OPTIONS=''
+    POSITIONALS=() SIDE='' RECORD='' OPTIONS=''
     while (($#)); do
         name=${1%%=*}
         case $1 in
@@ -31,6 +31,7 @@ split_words() {
                     shift
                 fi
                 [[ $name == --side ]] && SIDE=${1#*=}
+                [[ $name == --record ]] && RECORD=${1#*=}
                 ;;
             -?*) return 1 ;;
             *) POSITIONALS+=("$1") ;;
@@ -68,6 +69,13 @@ read_settle_words() {
     COMMAND=settle GAME=${POSITIONALS[0]} OTHER=${POSITIONALS[1]}
 }
 
+# Sets what `read_words` sets, for posgame-play, whose words are a name and options.
+read_play_words() {
+    COMMAND='' FAMILY='' GAME='' OTHER=''
+    split_words ' --record ' '' "$@" || return 0
+    ((${#POSITIONALS[@]} == 1)) && COMMAND=table GAME=${POSITIONALS[0]} OTHER=$RECORD
+}
+
 # Sets `COMMAND` (empty where the words name none), `FAMILY` (`span`, `vec` or nothing), and the
 # names `GAME` and `OTHER`, a certificate or record. Numbers aren't looked at: the program does.
 read_words() {
@@ -100,6 +108,7 @@ find_written() {
     WRITTEN=()
     case $COMMAND in
         solve | record | settle) WRITTEN=("$OTHER") ;;
+        table) WRITTEN=(${OTHER:+"$OTHER"}) ;;
         gen) WRITTEN=("$GAME" ${OTHER:+"$OTHER"}) ;;
     esac
 }
@@ -317,7 +326,7 @@ ask_again() {
     is_rereadable "$GAME" && ((TICKS - BUILDING_TICKS <= 200)) || return
     [[ $STATUS == 3 ]] || is_rereadable "$OTHER" || return
     case $COMMAND:$STATUS in
-        draw:3 | book:3) words=("$GAME") ;;
+        draw:3 | book:3 | table:3) words=("$GAME") ;;
         draw:4 | book:4) words=("$@") ;;
         moves:3) words=(moves --positions 1 -- "$GAME") ;;
         settle:3) words=(--positions 1 -- "$GAME" /dev/null) ;;
@@ -392,7 +401,7 @@ explain_open() {
 
 # Says what the status means, with what is found in the words and the files of this run.
 explain() {
-    # The programs posgame-draw and posgame-settle say these themselves.
+    # The other programs say these themselves.
     [[ $NAME != posgame && $STATUS == [2567] ]] && return
     trap '' PIPE
     "$READER" "$@"

@@ -1,11 +1,12 @@
 # Runs a program as if it had been called itself, and says on standard error what went wrong once it
-# has ended. Sourced by the scripts posgame, posgame-draw and posgame-settle, of a checkout and
-# installed. They set
+# has ended. Sourced by the scripts posgame, posgame-draw, posgame-settle and posgame-play, of a
+# checkout and installed. They set
 #   NAME     what they are called
 #   PROGRAM  the file of the program
 #   TEXTS    the folder of this file, of explain.bash, codes.txt and the usage
 #   VERSION  the file with the version
-#   READER   the function that reads the words: read_words, read_draw_words or read_settle_words
+#   READER   the function that reads the words: read_words, read_draw_words, read_settle_words or
+#            read_play_words
 # and then call `run_program` with the words. The program gets standard input, output and error as
 # they are: nothing stands between, so that no byte waits and a dialogue on a terminal stays one.
 # What the program printed is therefore not seen here; explain.bash says how it gets the text.
@@ -85,11 +86,20 @@ ask_for_progress() {
     fi
 }
 
+# Tells posgame-play how many characters a row of the terminal has, where the caller doesn't.
+give_columns() {
+    local size
+    [[ ! ${COLUMNS-} && -t 1 ]] && size=$(stty size <&1 2> /dev/null) || return 0
+    [[ $size == *' 0' ]] || export COLUMNS=${size#* }
+}
+
 # Runs the program with the words, says what went wrong, and ends as it did.
 run_program() {
     WRITTEN=()
     case "$NAME $* " in
-        *' solve '* | *' record '* | *' gen '* | 'posgame-settle '*) load_texts && prepare "$@" ;;
+        *' solve '* | *' record '* | *' gen '* | 'posgame-settle '* | 'posgame-play '*' --record'*)
+            load_texts && prepare "$@"
+            ;;
     esac
     run_child "$@"
     if ((STATUS > 128 && ${#WRITTEN[@]})); then

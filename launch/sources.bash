@@ -1,6 +1,6 @@
 # Which program a checkout runs: the proved one where no source of it is newer, and else one that
-# `rt try` makes of the sources before their proof. Sourced by ./posgame, ./posgame-draw and
-# ./posgame-settle.
+# `rt try` makes of the sources before their proof. Sourced by ./posgame, ./posgame-draw,
+# ./posgame-settle and ./posgame-play.
 #
 # `rt try` itself runs a program once, on copies of files, and hands out what it printed when it has
 # ended. So the one that it makes is kept, under out/unproved/, and run like the proved one: files,
@@ -75,15 +75,18 @@ stop_build() {
 }
 
 # Makes $3 of the sources of the crate $2 by `rt try`, which is handed a pipe as the game to read,
-# with the words $4 before it, so that the program waits while the copy is taken.
+# with the words $4 before it, so that the program waits while the copy is taken. A second name
+# follows, unless `ONE_NAME` is set.
 build_unproved() {
-    local top=$1 crate=$2 made=$3 log=$3.log
+    local top=$1 crate=$2 made=$3 log=$3.log names
     mkdir -p "${made%/*}" && ROOM=$(mktemp -d) && mkfifo "$ROOM/game" || return
+    names=("$ROOM/game" "$ROOM/none")
+    [[ ${ONE_NAME-} ]] && names=("$ROOM/game")
     BUILDING=
     trap stop_build EXIT
     trap 'exit 130' HUP INT TERM
     touch "$ROOM/begun"
-    (cd "$top/crates/$crate" && TMPDIR=$ROOM exec rt try -- "${@:4}" "$ROOM/game" "$ROOM/none") \
+    (cd "$top/crates/$crate" && TMPDIR=$ROOM exec rt try -- "${@:4}" "${names[@]}") \
         < /dev/null > "$log" 2>&1 &
     local trying=$!
     BUILDING=$trying

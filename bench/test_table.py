@@ -1,0 +1,138 @@
+"""Tests of bench/table.py, as far as the program isn't needed:
+`python3 -m unittest discover -s bench`. Stand-ins for the program are scripts. Unproved.
+"""
+from __future__ import annotations
+
+import pathlib
+import random
+import shutil
+import tempfile
+import unittest
+
+import kit
+import table
+
+GRID = table.BOARDS["a grid"]
+TURN = "X claims: "
+
+
+class Rules(unittest.TestCase):
+    def test_grid(self) -> None:
+        game = table.Table(GRID)
+        game.claim(1)
+        self.assertEqual(game.picture(), "     a  b  c \n  1  . [X] . \n  2  .  .  . \n"
+                                         "  3  .  .  . \n")
+
+    def test_parts(self) -> None:
+        game = table.Table(table.Board("maker-breaker", 6, [[0, 1]], 3), 10)
+        self.assertEqual(game.picture(), "     a  b \n  1  .  . \n  2  .  . \n"
+                                         "     c \n  1  . \n  2  . \n")
+
+    def test_points(self) -> None:
+        game = table.Table(table.Board("maker-breaker", 3, [[0, 1], [0, 2]]), 10)
+        game.claim(1)
+        self.assertEqual(game.picture(), "   0  [X] \n   2 \nopen lines: 2\n 0 1\n 0 2\n")
+
+    def test_edges(self) -> None:
+        game = table.Table(table.Board("switching", 2, [], graph=(3, [(0, 2), (2, 1)])))
+        game.claim(1)
+        self.assertEqual(game.picture(), "  0:  0-2   .     1:  2-1  [X]  \n")
+
+    def test_names(self) -> None:
+        game = table.Table(table.BOARDS["a wide grid"])
+        found = [game.point(it) for it in ("ad2", "ae1", "a3", "a0", "59", "b01", "lines")]
+        self.assertEqual(found, [59, None, None, None, 59, None, None])
+
+    def test_turns(self) -> None:
+        game = table.Table(table.BOARDS["two points a turn"])
+        said = [game.claim(it).rsplit("\n", 1)[-1] for it in (0, 5, 1)]
+        self.assertEqual(said, ["O claims 2 points: ", "O claims: ", TURN])
+
+    def test_ends(self) -> None:
+        game = table.Table(GRID)
+        for point in (0, 3, 1, 4):
+            game.claim(point)
+        self.assertTrue(game.claim(2).endswith("X has won.\n"))
+        self.assertEqual(game.score(), 1)
+
+    def test_joined(self) -> None:
+        board = table.Board("switching", 2, [], graph=(3, [(0, 2), (2, 1)]))
+        both, one, none = frozenset({0, 1}), frozenset({1}), frozenset[int]()
+        found = [board.joins(both, none), board.joins(none, one), board.joins(none, none)]
+        self.assertEqual(found, [1, -1, None])
+
+    def test_lines(self) -> None:
+        game = table.Table(GRID)
+        game.claim(4)
+        game.claim(0)
+        self.assertEqual(game.answer(b"lines b1"), "open lines: 1\n b1 b2 b3\n" + TURN)
+        self.assertEqual(game.answer(b"lines d1"), table.REFUSALS["unclear"] + TURN)
+        self.assertEqual(game.answer(b"lines 9"), table.REFUSALS["none"] + TURN)
+
+    def test_answers(self) -> None:
+        game = table.Table(GRID)
+        self.assertEqual(game.answer(b"undo"), table.REFUSALS["nothing"] + TURN)
+        self.assertEqual(game.answer(b" nothing\r"), table.REFUSALS["unclear"] + TURN)
+        self.assertIn("quit     leaves", game.answer(b"?") or "")
+        self.assertIsNone(game.answer(b"\tquit "))
+        game.answer(b"b2")
+        self.assertEqual(game.answer(b"4"), table.REFUSALS["taken"] + "O claims: ")
+        game.answer(b"undo")
+        self.assertEqual(game.record(), "posgame-record 1\nmove 4\nback\n")
+
+    def test_most(self) -> None:
+        said = table.Table(GRID).play(b"?\n" * (table.MOST_LINES + 5))
+        self.assertEqual(said.count("quit     leaves"), table.MOST_LINES)
+
+
+class Lines(unittest.TestCase):
+    def test_cut(self) -> None:
+        self.assertEqual(table.cut(b"x" * 130), [b"x" * 64, b"x" * 64, b"xx"])
+
+    def test_drawn(self) -> None:
+        typed = table.typed_lines(random.Random(1), GRID, 300)
+        self.assertEqual(typed, table.typed_lines(random.Random(1), GRID, 300))
+        game = table.Table(GRID)
+        for line in table.cut(typed):
+            self.assertIsNone(game.score())
+            game.answer(line)
+
+    def test_difference(self) -> None:
+        board, typed = GRID, b"b1\nquit\n"
+        game = table.Table(board)
+        said = game.play(typed) + "recorded 1\n"
+        self.assertEqual(self.tried(said, game.record(), typed), [])
+        self.assertEqual(self.tried(said, "posgame-record 1\n", typed), ["another record"])
+        self.assertEqual(len(self.tried(said.replace("[X]", " X "), game.record(), typed)), 1)
+        self.assertEqual(self.tried(said, game.record(), typed, 5), ["status 5"])
+
+    def tried(self, said: str, record: str, typed: bytes, status: int = 0) -> list[str]:
+        """What is found of a stand-in that prints and stores these texts."""
+        with tempfile.TemporaryDirectory() as room:
+            folder = pathlib.Path(room)
+            (folder / "said").write_text(said)
+            (folder / "record").write_text(record)
+            program = folder / "program"
+            program.write_text(f"#!/bin/sh\ncp {room}/record $3\ncat {room}/said\nexit {status}\n")
+            program.chmod(0o755)
+            return table.tried(str(program), GRID, typed)
+
+
+class Screens(unittest.TestCase):
+    def test_rows(self) -> None:
+        rows = table.plays()
+        self.assertEqual([it.name for it in rows], ["grid", "bridg-it", "ring", "undo"])
+        for row in rows:
+            self.assertTrue((kit.EXAMPLES / row.words[0]).exists())
+            self.assertTrue((table.SCREENS / f"{row.name}.txt").exists())
+
+    def test_terminal(self) -> None:
+        if shutil.which("tmux") is None:
+            self.skipTest("tmux is not found")
+        with tempfile.TemporaryDirectory() as room:
+            program = pathlib.Path(room) / "program"
+            program.write_text("#!/bin/sh\nprintf 'X claims: '\nread it\necho \"it was $it\"\n")
+            program.chmod(0o755)
+            play = table.Play("echo", [], ["b1"])
+            shown = table.shown_of(str(program), play)
+        self.assertEqual(shown, "X claims: b1\nit was b1\nstatus 0")

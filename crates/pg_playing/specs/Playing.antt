@@ -1,0 +1,65 @@
+-- What playing a game at a table does.
+use Rattle.std.specs.Prelude.{◌≡◌, ◌⊎◌, ℕ, List, [], ◌∷◌, ◌++◌, Option, Some, None, Result, Ok, Err}
+use Rattle.std.specs.Prelude.{⊤}
+use Rattle.pg_playing.specs.Prelude.{Bytes, DONE, Delivers, Done, End, Entry, Event, Failed}
+use Rattle.pg_playing.specs.Prelude.{Finished, Game, Halt, IsGameHalt, IsSaidBy, Look, Refused}
+use Rattle.pg_playing.specs.Prelude.{Starved, Stopped, IsNothing, record_file, recorded_text}
+use Rattle.pg_playing.specs.Prelude.{standing_count}
+use Rattle.pg_files.specs.GameFile.{Entry as GameEntry}
+use Rattle.pg_playing.specs.TableLog.{IsBegunLog, IsWholeLog}
+
+-- the paths under which something is stored
+abbrev pub names_of : Option Bytes → List Bytes
+names_of None = []
+names_of (Some path) = path ∷ []
+
+-- the record of a session is stored and that is said, if there is a path for it; otherwise nothing
+-- is done
+abbrev pub Stores : Option Bytes → Game → List Event → Done → End → Type 0
+Stores None g events done (Finished status) = IsNothing done × (status ≡ DONE)
+Stores None g events done Failed = ⊥
+Stores None g events done Starved = ⊥
+Stores (Some path) g events done end = Delivers (record_file path events)
+    (recorded_text (standing_count g events) ∷ []) done end
+
+-- what was printed and read, and then what was done at the end
+abbrev pub after_log : List Entry → Done → Done
+after_log entries done =
+    record { entries = entries ++ done.entries; stored = done.stored }
+
+-- the log of a game is whole, and then its record was stored
+pub record Closed (look : Look) (g : Game) (path : Option Bytes) (done : Done) (end : End)
+    : Type 0 where
+  pub entries : List Entry
+  pub events : List Event
+  pub log : IsWholeLog look g entries events
+  pub last : Done
+  pub stores : Stores path g events last end
+  pub same : done ≡ after_log entries last
+
+-- a game is played: its log is whole and its record stored. If a call fails or memory runs out, the
+-- log has begun and nothing was stored, or the log is whole and storing was stopped
+abbrev pub IsCutShort : Look → Game → Done → Type 0
+IsCutShort look g done = IsBegunLog look g done.entries × (done.stored ≡ [])
+
+abbrev pub PlaysGame : Look → Game → Option Bytes → Done → End → Type 0
+PlaysGame look g path done (Finished status) = Closed look g path done (Finished status)
+PlaysGame look g path done Failed = IsCutShort look g done ⊎ Closed look g path done Failed
+PlaysGame look g path done Starved = IsCutShort look g done ⊎ Closed look g path done Starved
+
+-- the same of a game that was read
+abbrev pub Plays : Look → Result GameEntry Halt → Option Bytes → Done → End → Type 0
+Plays look (Err halt) path done end = ⊥
+Plays look (Ok entry) path done end =
+    (g : Game) × IsSaidBy entry g × PlaysGame look g path done end
+
+-- how playing a game that was read ends
+abbrev pub GivesTable : Result ℕ Halt → Type 0
+GivesTable (Ok status) = status ≡ DONE
+GivesTable (Err (Refused refusal)) = ⊥
+GivesTable (Err (Stopped stop)) = ⊤
+
+-- how playing ends
+abbrev pub GivesPlay : Result ℕ Halt → Type 0
+GivesPlay (Ok status) = status ≡ DONE
+GivesPlay (Err halt) = IsGameHalt halt
