@@ -34,6 +34,7 @@ BENCHES = {
     "Large game files": "games.py files",
     "Boards settled": "settling.py",
     "Random games settled": "settling.py --random 100",
+    "Boards split and joined": "joining.py",
     "Plays with their undo on a board": "parts.py board",
     "Searches for threat lines": "parts.py threat",
     "Searches for private pairs": "parts.py match",

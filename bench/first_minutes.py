@@ -231,11 +231,64 @@ def settles(script: pathlib.Path, room: pathlib.Path) -> int:
     return len(cases) + 1
 
 
+def splits(script: pathlib.Path, room: pathlib.Path) -> int:
+    """`posgame-settle split` by one of its scripts: its texts, its faults, what it writes."""
+    pieces = room / "split"
+    pieces.mkdir(exist_ok=True)
+    for path in pieces.iterdir():
+        path.unlink()
+    words = ["split", BOARD, str(pieces), "--most"]
+    tried = [
+        Case([*words, "10001"], 2, "", "10001"),
+        Case([*words[:3], "--json"], 2, "", "--json"),
+        Case([*words, "20"], 0, "positions 3 depth 1\n", "^$"),
+        Case([*words, "1"], 0, "positions 1 depth 0\n", "^$"),
+        Case(["split", "examples/diamond.game", str(pieces)], 4, "plan: none for this game\n",
+             "can't be split so"),
+        Case(["split", "none", str(pieces)], 5, "", "none: "),
+        Case(["split", BOARD, str(room / "none")], 6, "", "warning: .*: there is no folder"),
+    ]
+    for case in tried:
+        try_case(script, case)
+    return len(tried)
+
+
+def joins(script: pathlib.Path, room: pathlib.Path) -> int:
+    """`posgame-settle join` by one of its scripts: two positions, one the mirror image of the
+    other, whose certificate is there, missing or below a plan with a fault."""
+    game, cert, pieces = (room / name for name in ("pair.game", "pair.cert", "pieces"))
+    pieces.mkdir(exist_ok=True)
+    game.write_text("posgame 1\nkind maker-breaker\ngrid 2 1\nline 0\nline 1\nturn y\n")
+    plan, piece = pieces / "plan", pieces / "00001.cert"
+    words = ["join", str(game), str(pieces), str(cert)]
+    lines = "posgame-plan 1\ngame 1\nimage 1 0\nmoves 0:0 1:1\n"
+    proof = "posgame-cert 1\nclaim x x win\nnodes 2\n1|0|y|over\n|0|x|move 1 0\n"
+    needed = "unknown after 0 positions\nneeded 1 positions\n00001.game"
+    tried = [
+        (lines, proof, Case(words, 0, "result maker\nexpanded 0 nodes 5\n", "^$")),
+        (lines, proof[:-9], Case([*words, "--images"], 1, f"{needed} faulty\n", "first ones")),
+        (lines.replace("1:1", "1:3"), "", Case(words, 4, "plan P5 line 4\n",
+                                               "/plan', line 4: .* .P5.\n    moves 0:0 1:3")),
+        ("", "", Case(words, 4, "plan P2 line 1\n", "/plan', line 1: .* .P2.")),
+        (lines, "", Case([*words, "--positions", "1"], 2, "", "--positions")),
+        (lines, "", Case(["join", "examples/rosette-with-a-slip.game", *words[2:]], 3,
+                         "game G6 line 4\n", "line 4: .* .G6.\n    line")),
+        (lines, "", Case([*words[:2], str(room), str(cert)], 5, "", "/plan: ")),
+    ]
+    for text, found, case in tried:
+        plan.write_text(text)
+        piece.write_text(found)
+        try_case(script, case)
+    told = run(TOP / "posgame", ["check", str(game), str(cert)]).stdout
+    expect(told == "accepted y x win\n", f"the joined certificate: {told!r}")
+    return len(tried)
+
+
 def settled() -> str:
     """posgame-settle in a checkout and installed, and what it stores."""
     with folder() as room:
         scripts = TOP / "posgame-settle", install(room / "prefix").with_name("posgame-settle")
-        count = sum(settles(it, room) for it in scripts)
+        count = sum(settles(it, room) + splits(it, room) + joins(it, room) for it in scripts)
     helped = run(scripts[0], ["--help"])
     expect(helped.returncode == 0 and "--entries N" in helped.stdout, f"--help: {helped}")
     told = run(scripts[0], ["--version"]).stdout

@@ -10,6 +10,15 @@ _posgame_files() {
     compopt -o filenames 2> /dev/null
 }
 
+# Adds the folders that begin with $1 to COMPREPLY.
+_posgame_folders() {
+    local name
+    while IFS= read -r name; do
+        COMPREPLY+=("$name")
+    done < <(compgen -d -- "$1")
+    compopt -o filenames 2> /dev/null
+}
+
 # Adds those of the words $1 that begin with $2 to COMPREPLY.
 _posgame_words() {
     local word
@@ -52,7 +61,7 @@ _posgame_read() {
     local at word
     for ((at = 1; at < COMP_CWORD; at++)); do
         word=${COMP_WORDS[at]}
-        if [[ $word == --@(side|positions|entries|nodes|record) ]]; then
+        if [[ $word == --@(side|positions|entries|nodes|most|record) ]]; then
             [ "${COMP_WORDS[at + 1]}" = = ] && at=$((at + 1))
             at=$((at + 1))
             ((at < COMP_CWORD)) || pending=$word
@@ -95,6 +104,10 @@ _posgame_settle() {
     _posgame_read
     if [ "${COMP_WORDS[1]}" = moves ] && ((COMP_CWORD > 1)); then
         _posgame_moves
+    elif [ "${COMP_WORDS[1]}" = split ] && ((COMP_CWORD > 1)); then
+        _posgame_split
+    elif [ "${COMP_WORDS[1]}" = join ] && ((COMP_CWORD > 1)); then
+        _posgame_join
     elif [ -n "$pending" ]; then
         :
     elif [[ $current == -* ]]; then
@@ -103,7 +116,7 @@ _posgame_settle() {
     elif ((place < 2)); then
         local -a endings=(game cert)
         _posgame_files "${endings[place]}" "$current"
-        ((COMP_CWORD > 1)) || _posgame_words moves "$current"
+        ((COMP_CWORD > 1)) || _posgame_words 'moves split join' "$current"
     fi
 }
 
@@ -115,6 +128,34 @@ _posgame_moves() {
         _posgame_words '--positions --entries --nodes --json --progress' "$current"
     elif ((place == 1)); then
         _posgame_files game "$current"
+    fi
+}
+
+# The words after `posgame-settle split`, as the caller has read them.
+_posgame_split() {
+    if [ -n "$pending" ]; then
+        :
+    elif [[ $current == -* ]]; then
+        _posgame_words --most "$current"
+    elif ((place == 1)); then
+        _posgame_files game "$current"
+    elif ((place == 2)); then
+        _posgame_folders "$current"
+    fi
+}
+
+# The words after `posgame-settle join`, as the caller has read them.
+_posgame_join() {
+    if [ -n "$pending" ]; then
+        :
+    elif [[ $current == -* ]]; then
+        _posgame_words '--nodes --images' "$current"
+    elif ((place == 1)); then
+        _posgame_files game "$current"
+    elif ((place == 2)); then
+        _posgame_folders "$current"
+    elif ((place == 3)); then
+        _posgame_files cert "$current"
     fi
 }
 

@@ -5,10 +5,10 @@
 # The code of a fault, such as that of `game G6 line 4`, is on the program's standard output, which
 # this script doesn't see. So it asks the program once more, by words that store nothing and end
 # soon: `check GAME /dev/null` for a fault of the game, `check GAME CERT` for one of the
-# certificate, `review GAME RECORD --positions 1` for one of the record. It doesn't where that
-# can't be the same or takes long: a file that is no plain one (a pipe is read once), or is standard
-# input, or a run that took more than two seconds of a processor. Then it says what the status
-# tells.
+# certificate, `review GAME RECORD --positions 1` for one of the record, and for one of a plan
+# `join GAME FOLDER /dev/null`. It doesn't where that can't be the same or takes long: a file that
+# is no plain one (a pipe is read once), or is standard input, or a run that took more than two
+# seconds of a processor. Then it says what the status tells.
 # shellcheck shell=bash disable=SC2034,SC2153 # run.bash shares its variables
 
 # Sets `POSITIONALS`, `SIDE`, `RECORD` and `OPTIONS` (a row of the options' names) by the words from
@@ -43,7 +43,7 @@ split_words() {
 # Sets what `read_words` sets, for posgame-draw, whose words are names and perhaps a node, or two
 # names with --book.
 read_draw_words() {
-    COMMAND='' FAMILY='' GAME='' OTHER=''
+    COMMAND='' FAMILY='' GAME='' FOLDER='' OTHER=''
     if [[ " $* " == *' --book '* ]]; then
         split_words '' ' --book ' "$@" || return 0
         ((${#POSITIONALS[@]} == 2)) && COMMAND=book GAME=${POSITIONALS[0]} OTHER=${POSITIONALS[1]}
@@ -56,12 +56,23 @@ read_draw_words() {
 }
 
 # Sets what `read_words` sets, for posgame-settle, whose words are two names and options, or else
-# `moves`, a name and options.
+# `moves`, a name and options, `split`, two names and an option (the second is `FOLDER`), or `join`,
+# three names (the second is `FOLDER`) and options.
 read_settle_words() {
-    COMMAND='' FAMILY='' GAME='' OTHER=''
+    COMMAND='' FAMILY='' GAME='' FOLDER='' OTHER=''
     if [[ ${1-} == moves ]]; then
         split_words ' --positions --entries --nodes ' ' --json --progress ' "${@:2}" || return 0
         ((${#POSITIONALS[@]} == 1)) && COMMAND=moves GAME=${POSITIONALS[0]}
+        return 0
+    elif [[ ${1-} == split ]]; then
+        split_words ' --most ' '' "${@:2}" || return 0
+        ((${#POSITIONALS[@]} == 2)) || return 0
+        COMMAND=split GAME=${POSITIONALS[0]} FOLDER=${POSITIONALS[1]}
+        return 0
+    elif [[ ${1-} == join ]]; then
+        split_words ' --nodes ' ' --images ' "${@:2}" || return 0
+        ((${#POSITIONALS[@]} == 3)) || return 0
+        COMMAND=join GAME=${POSITIONALS[0]} FOLDER=${POSITIONALS[1]} OTHER=${POSITIONALS[2]}
         return 0
     fi
     split_words ' --positions --entries --nodes ' ' --images --json --progress ' "$@" || return 0
@@ -80,7 +91,7 @@ read_play_words() {
 # names `GAME` and `OTHER`, a certificate or record. Numbers aren't looked at: the program does.
 read_words() {
     local at=1 count
-    COMMAND='' FAMILY='' GAME='' OTHER=''
+    COMMAND='' FAMILY='' GAME='' FOLDER='' OTHER=''
     split_words ' --positions --side ' ' --images ' "$@" || return 0
     case ${POSITIONALS[0]-} in
         span | vec) FAMILY=${POSITIONALS[0]} at=2 ;;
@@ -107,9 +118,10 @@ read_words() {
 find_written() {
     WRITTEN=()
     case $COMMAND in
-        solve | record | settle) WRITTEN=("$OTHER") ;;
+        solve | record | settle | join) WRITTEN=("$OTHER") ;;
         table) WRITTEN=(${OTHER:+"$OTHER"}) ;;
         gen) WRITTEN=("$GAME" ${OTHER:+"$OTHER"}) ;;
+        split) WRITTEN=("$FOLDER/plan") ;;
     esac
 }
 
@@ -320,16 +332,18 @@ is_rereadable() {
 # Sets `FOUND` to what the program says of the fault when it is asked again, and fails where it
 # can't be asked.
 ask_again() {
-    local words status=$STATUS
+    local words status=$STATUS file=$OTHER
+    [[ $FOLDER ]] && file=$FOLDER/plan
     FOUND=
     count_ticks
     is_rereadable "$GAME" && ((TICKS - BUILDING_TICKS <= 200)) || return
-    [[ $STATUS == 3 ]] || is_rereadable "$OTHER" || return
+    [[ $STATUS == 3 ]] || is_rereadable "$file" || return
     case $COMMAND:$STATUS in
         draw:3 | book:3 | table:3) words=("$GAME") ;;
         draw:4 | book:4) words=("$@") ;;
         moves:3) words=(moves --positions 1 -- "$GAME") ;;
-        settle:3) words=(--positions 1 -- "$GAME" /dev/null) ;;
+        settle:3 | split:3 | join:3) words=(--positions 1 -- "$GAME" /dev/null) ;;
+        split:4 | join:4) words=(join -- "$GAME" "$FOLDER" /dev/null) ;;
         review:3) words=(review --positions 1 -- "$GAME" /dev/null) ;;
         *:3) words=(${FAMILY:+"$FAMILY"} check -- "$GAME" /dev/null) ;;
         *:4) words=(${FAMILY:+"$FAMILY"} check -- "$GAME" "$OTHER") ;;
@@ -357,11 +371,17 @@ say_fault() {
 # Statuses 3, 4 and 10: which file has a fault, where, and what its code means.
 explain_fault() {
     local file=$OTHER place line=0
-    local in_file='(game|certificate|record) ([GCF][0-9]+) line ([0-9]+)'
+    local in_file='(game|certificate|record|plan) ([GCFP][0-9]+) line ([0-9]+)'
     local in_claim='rejected ([JISV][0-9]+) claim ([0-9]+)( node ([0-9]+))?'
     local drawn='<title>claim [xy, a-z]*(: node ([0-9]+))?: rejected ([JS][0-9]+)</title>'
+    [[ $FOLDER ]] && file=$FOLDER/plan
     ((STATUS == 3)) && file=$GAME
     if ! ask_again "$@"; then
+        if [[ $COMMAND:$STATUS == split:4 ]]; then
+            say "${GAME@Q} can't be split so: a switching game has no plan (\`posgame solve\`" \
+                "decides it), and a plan in ${FOLDER@Q} has to be one of this game"
+            return
+        fi
         say "${file@Q} has a fault; \`posgame-why CODE\` says what its code means"
     elif [[ $FOUND =~ ^$in_file$ ]]; then
         line=${BASH_REMATCH[3]}
@@ -385,6 +405,9 @@ explain_open() {
     if [[ $COMMAND == moves ]]; then
         say 'a value is unknown; try greater numbers after --positions and --entries' \
             '(within a turn of several points none is looked for)'
+    elif [[ $COMMAND == join ]]; then
+        say 'settle the positions that are needed, the first ones first, or split those further' \
+            'that stay open; then join again'
     elif [[ $COMMAND == settle ]]; then
         say 'no proof was found; try greater numbers after --positions and --entries, or the game' \
             'after some moves, with their marks in the game file'

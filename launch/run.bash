@@ -78,7 +78,7 @@ load_texts() {
 # Sets `WORDS` to the words of posgame-settle: with --progress if standard error is a terminal.
 ask_for_progress() {
     WORDS=("$@")
-    [[ -t 2 && " $* " != *' --progress '* ]] || return 0
+    [[ -t 2 && " $* " != *' --progress '* && ${1-} != @(split|join) ]] || return 0
     if [[ ${1-} == moves ]]; then
         WORDS=(moves --progress "${@:2}")
     else

@@ -43,6 +43,10 @@ pub struct HostFiles<'a, R: FileSystem<File = File> + Alloc> {
     stored: Option<Stored<R::A>>,
     /// Whether the open file is never replaced.
     spares_opened: bool,
+    /// The name whose file is the last one of a batch.
+    last: Option<&'a str>,
+    /// Whether the file that is being made is one of a batch before the last.
+    is_early: bool,
     reads: u64,
     writes: u64,
 }
@@ -60,6 +64,8 @@ impl<'a, R: FileSystem<File = File> + Alloc> HostFiles<'a, R> {
             draft: None,
             stored: None,
             spares_opened: false,
+            last: None,
+            is_early: false,
             reads: 0,
             writes: 0,
         }
@@ -73,6 +79,19 @@ impl<'a, R: FileSystem<File = File> + Alloc> HostFiles<'a, R> {
     {
         let mut files = HostFiles::new(rt);
         files.spares_opened = true;
+        files
+    }
+
+    /// As [`HostFiles::new`], but the files that are stored are a batch, of which the one with this
+    /// name is the last. The folder of the batch is synced before this takes its place, and then
+    /// once more, and not with each file. So if the last file is there after the machine was
+    /// stopped, all are; if it isn't, some of the others may be lost.
+    pub fn ending_with(rt: &'a R, last: &'a str) -> HostFiles<'a, R>
+        ensures busy { is_some result.draft ≡ false }
+        ensures faults { (result.reads ≡ 0) × (result.writes ≡ 0) }
+    {
+        let mut files = HostFiles::new(rt);
+        files.last = Some(last);
         files
     }
 
@@ -149,9 +168,10 @@ impl<'a, R: FileSystem<File = File> + Alloc> HostFiles<'a, R> {
     /// Gives the part its place, or writes its bytes into the file that keeps the place.
     fn settle_part(&self, mut part: Part<R::A>) -> io::Result<Option<Stored<R::A>>> {
         let folder = Folder::of(self.rt, part.place());
+        self.sync_batch();
         let outcome = match self.rename(&part, &folder) {
             Ok(()) => {
-                folder.sync();
+                self.sync_after(&folder);
                 return Ok(Some(Stored { part, folder }));
             }
             Err(error) if keeps_place(&error) => self.write_within(&mut part),
@@ -160,6 +180,26 @@ impl<'a, R: FileSystem<File = File> + Alloc> HostFiles<'a, R> {
         part.remove(self.rt);
         outcome?;
         Ok(None)
+    }
+
+    /// Syncs the folder of the batch before its last file.
+    fn sync_batch(&self) {
+        if self.last.is_some() && !self.is_early {
+            if let Some(first) = &self.stored {
+                first.folder.sync();
+            }
+        }
+    }
+
+    /// Syncs the folder in which a file was stored, unless that is done before the last one.
+    fn sync_after(&self, folder: &Folder) {
+        let is_of_batch = match &self.stored {
+            Some(first) => first.folder.is_same(folder),
+            None => true,
+        };
+        if !(self.is_early && is_of_batch) {
+            folder.sync();
+        }
     }
 
     /// Gives the part its place, if what this run has stored first is still there.
@@ -251,6 +291,10 @@ impl<'a, R: FileSystem<File = File> + Alloc + Print> Files for HostFiles<'a, R> 
         if let Some(draft) = self.draft.take() {
             self.discard(draft);
         }
+        self.is_early = match self.last {
+            Some(last) => name != last,
+            None => false,
+        };
         match self.begin(name) {
             Ok(draft) => {
                 self.draft = Some(draft);

@@ -1,6 +1,6 @@
 //! Files that have their places, and the folders of these.
 use crate::part::Part;
-use crate::place::is_at;
+use crate::place::{are_same, is_at};
 use std::alloc::Allocator;
 use std::fs::{File, TryLockError};
 use std::path::Path;
@@ -44,6 +44,17 @@ impl Folder {
     pub(crate) fn unlock(&self) {
         if let Some(file) = &self.file {
             let _ = file.unlock();
+        }
+    }
+
+    /// Returns whether both are known to be the same folder.
+    pub(crate) fn is_same(&self, other: &Folder) -> bool {
+        let (Some(one), Some(other)) = (&self.file, &other.file) else {
+            return false;
+        };
+        match (one.metadata(), other.metadata()) {
+            (Ok(one), Ok(other)) => are_same(&one, &other),
+            _ => false,
         }
     }
 

@@ -1,9 +1,11 @@
 //! What went wrong, said to people on standard error.
-use crate::usage::{Asked, NAME};
+use crate::looking::{is_hidden, is_open};
+use crate::usage::{Asked, NAME, Task};
 use pg_messages::{NO_MEANING, NO_MEMORY, READ_FAILED, WRITE_FAILED};
+use pg_plan::plan_name;
 use std::fs;
 
-/// Says why the game's file can't be read.
+/// Says why a file can't be read.
 fn say_unreadable(rt: &HostRuntime, name: &str) {
     let _ = match fs::File::open(rt, name) {
         Ok(_) => eprintln!(rt; "{NAME}: {name}: it couldn't be read"),
@@ -11,18 +13,49 @@ fn say_unreadable(rt: &HostRuntime, name: &str) {
     };
 }
 
+/// Says why the plan can't be read, if that can't be opened, else why the game can't.
+fn say_unread(rt: &HostRuntime, asked: &Asked<'_>) {
+    let (folder, is_needed) = match asked.task {
+        Task::Join(folder) => (folder, true),
+        Task::Split(folder) => (folder, false),
+        Task::Settle | Task::Moves => return say_unreadable(rt, asked.game),
+    };
+    let Ok(plan) = plan_name(rt.alloc(), folder) else {
+        return;
+    };
+    let plan = plan.as_str();
+    if is_hidden(rt, plan) || is_needed && !is_open(rt, plan) {
+        say_unreadable(rt, plan);
+    } else {
+        say_unreadable(rt, asked.game);
+    }
+}
+
+/// Says what can't be written.
+fn say_unwritten(rt: &HostRuntime, asked: &Asked<'_>) {
+    let name = asked.certificate;
+    let _ = match asked.task {
+        Task::Moves => eprintln!(rt; "{NAME}: standard output couldn't be written"),
+        Task::Split(folder) => {
+            eprintln!(rt; "{NAME}: a file in {folder} or standard output couldn't be written")
+        }
+        Task::Settle | Task::Join(_) => {
+            eprintln!(rt; "{NAME}: {name} or standard output couldn't be written")
+        }
+    };
+}
+
 /// Says what statuses of calls and memory mean; the codes of faults are on standard output.
 pub(crate) fn say(rt: &HostRuntime, status: u8, asked: &Asked<'_>) {
-    let name = asked.certificate;
-    let _ = match status {
-        NO_MEANING => eprintln!(rt; "{NAME}: a number is outside its range"),
-        READ_FAILED => {
-            say_unreadable(rt, asked.game);
-            Ok(())
+    match status {
+        NO_MEANING => {
+            let _ = eprintln!(rt; "{NAME}: a number is outside its range");
         }
-        WRITE_FAILED if asked.moves => eprintln!(rt; "{NAME}: standard output couldn't be written"),
-        WRITE_FAILED => eprintln!(rt; "{NAME}: {name} or standard output couldn't be written"),
-        NO_MEMORY => eprintln!(rt; "{NAME}: out of memory"),
-        _ => Ok(()),
-    };
+        READ_FAILED => say_unread(rt, asked),
+        WRITE_FAILED => say_unwritten(rt, asked),
+        NO_MEMORY => {
+            let _ = eprintln!(rt; "{NAME}: out of memory");
+        }
+        _ => {}
+    }
 }

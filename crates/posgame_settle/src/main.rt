@@ -4,18 +4,23 @@
 ghost use Rattle.pg_settle.specs.Budgets.{IsBudget};
 
 mod complaint;
+mod looking;
 mod progress;
 mod usage;
 
+use looking::is_hidden;
 use pg_host::{HostConsole, HostFiles, guard_streams};
-use pg_messages::{NO_MEANING, NO_MEMORY, NO_WORDS};
+use pg_joining::{JoinOrder, join};
+use pg_messages::{NO_MEANING, NO_MEMORY, NO_WORDS, READ_FAILED};
 use pg_moves::{MovesOrder, settle_moves};
+use pg_plan::plan_name;
 use pg_settle::{Budget, Order, budget_for, settle};
+use pg_splitting::{DEFAULT_PIECES, SplitOrder, split_game};
 use progress::ShownFinder;
 use std::env;
 use std::io::ErrorKind;
 use std::process::ExitCode;
-use usage::Asked;
+use usage::{Asked, Task};
 
 /// Returns the words of the command line after the program's name, or the status without them.
 fn words_given(rt: &HostRuntime) -> Result<Vec<String>, u8> {
@@ -50,14 +55,45 @@ fn run_on_moves(rt: &HostRuntime, asked: &Asked<'_>, budget: Budget) -> u8
     settle_moves(rt.alloc(), order, &mut finder, &mut files, &mut console)
 }
 
-/// Settles the game, or tries its moves, and returns the status.
-fn run(rt: &HostRuntime, asked: &Asked<'_>) -> u8 {
-    let Some(budget) = budget_for(asked.positions, asked.entries, asked.nodes) else {
-        return NO_MEANING;
+/// Joins the certificates in a folder, and returns the status.
+fn run_on_certificates(rt: &HostRuntime, asked: &Asked<'_>, folder: &str, budget: Budget) -> u8
+    requires { IsBudget budget }
+{
+    let order = JoinOrder {
+        game: asked.game,
+        folder,
+        certificate: asked.certificate,
+        budget,
+        images: asked.images,
     };
-    if asked.moves {
-        return run_on_moves(rt, asked, budget);
+    let certificates = HostFiles::new(rt);
+    let mut files = HostFiles::new(rt);
+    let mut console = HostConsole::new(rt);
+    join(rt.alloc(), order, certificates, &mut files, &mut console)
+}
+
+/// Splits the game into positions in a folder, and returns the status.
+fn run_on_positions(rt: &HostRuntime, asked: &Asked<'_>, folder: &str) -> u8 {
+    let Ok(plan) = plan_name(rt.alloc(), folder) else {
+        return NO_MEMORY;
+    };
+    if is_hidden(rt, plan.as_str()) {
+        return READ_FAILED;
     }
+    let order = SplitOrder {
+        game: asked.game,
+        folder,
+        most: asked.most.unwrap_or(DEFAULT_PIECES),
+    };
+    let mut files = HostFiles::ending_with(rt, plan.as_str());
+    let mut console = HostConsole::new(rt);
+    split_game(rt.alloc(), order, &mut files, &mut console)
+}
+
+/// Settles the game, and returns the status.
+fn run_on_game(rt: &HostRuntime, asked: &Asked<'_>, budget: Budget) -> u8
+    requires { IsBudget budget }
+{
     let order = Order {
         game: asked.game,
         certificate: asked.certificate,
@@ -69,6 +105,19 @@ fn run(rt: &HostRuntime, asked: &Asked<'_>) -> u8 {
     let mut files = HostFiles::new(rt);
     let mut console = HostConsole::new(rt);
     settle(rt.alloc(), order, &mut finder, &mut files, &mut console)
+}
+
+/// Does what is asked for, and returns the status.
+fn run(rt: &HostRuntime, asked: &Asked<'_>) -> u8 {
+    let Some(budget) = budget_for(asked.positions, asked.entries, asked.nodes) else {
+        return NO_MEANING;
+    };
+    match asked.task {
+        Task::Settle => run_on_game(rt, asked, budget),
+        Task::Moves => run_on_moves(rt, asked, budget),
+        Task::Join(folder) => run_on_certificates(rt, asked, folder, budget),
+        Task::Split(folder) => run_on_positions(rt, asked, folder),
+    }
 }
 
 fn main(rt: HostRuntime) -> ExitCode {
