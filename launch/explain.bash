@@ -82,7 +82,7 @@ read_settle_words() {
 
 # Sets what `read_words` sets, for posgame-play, whose words are a name and options.
 read_play_words() {
-    COMMAND='' FAMILY='' GAME='' OTHER=''
+    COMMAND='' FAMILY='' GAME='' FOLDER='' OTHER=''
     split_words ' --record ' '' "$@" || return 0
     ((${#POSITIONALS[@]} == 1)) && COMMAND=table GAME=${POSITIONALS[0]} OTHER=$RECORD
 }
