@@ -233,23 +233,33 @@ def settles(script: pathlib.Path, room: pathlib.Path) -> int:
 
 def splits(script: pathlib.Path, room: pathlib.Path) -> int:
     """`posgame-settle split` by one of its scripts: its texts, its faults, what it writes."""
-    pieces = room / "split"
-    pieces.mkdir(exist_ok=True)
-    for path in pieces.iterdir():
-        path.unlink()
-    words = ["split", BOARD, str(pieces), "--most"]
+    game, pieces, faulty = "examples/four-in-a-row-empty-board.game", room / "split", room / "bad"
+    for place in (pieces, faulty):
+        place.mkdir(exist_ok=True)
+        for path in place.iterdir():
+            path.unlink()
+    (faulty / "plan").write_text("posgame-plan 1\ngame 0\n")
+    words = ["split", game, str(pieces), "--most"]
     tried = [
         Case([*words, "10001"], 2, "", "10001"),
         Case([*words[:3], "--json"], 2, "", "--json"),
-        Case([*words, "20"], 0, "positions 3 depth 1\n", "^$"),
-        Case([*words, "1"], 0, "positions 1 depth 0\n", "^$"),
-        Case(["split", "examples/diamond.game", str(pieces)], 4, "plan: none for this game\n",
+        Case([*words, "20"], 0, "positions 6 depth 1\n", "^$"),
+        Case([*words, "4"], 0, "positions 0 depth 0\n", "^$"),
+        Case(["split", BOARD, str(pieces)], 4, "plan: of another game, or too large\n",
+             "has to be one of this game"),
+        Case(["split", game, str(faulty)], 4, "plan P4 line 2\n",
+             "/plan', line 2: .* .P4.\n    game 0"),
+        Case(["split", "examples/rosette-with-a-slip.game", str(pieces)], 3, "game G6 line 4\n",
+             "line 4: .* .G6.\n    line"),
+        Case(["split", "examples/diamond.game", str(room)], 4, "plan: none for this game\n",
              "can't be split so"),
         Case(["split", "none", str(pieces)], 5, "", "none: "),
         Case(["split", BOARD, str(room / "none")], 6, "", "warning: .*: there is no folder"),
     ]
     for case in tried:
         try_case(script, case)
+    names = sorted(it.name for it in pieces.iterdir())
+    expect(names == [*(f"0000{it}.game" for it in range(1, 7)), "plan"], f"split wrote {names}")
     return len(tried)
 
 

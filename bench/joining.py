@@ -188,8 +188,8 @@ def work(folder: Folder, names: list[str], dice: random.Random, board: Board) ->
     while names or running:
         while names and len(running) < WORKERS:
             name = names.pop(0)
-            process = subprocess.Popen(folder.command(name, board.limits),
-                                       stdout=subprocess.DEVNULL)
+            words = folder.command(name, board.limits)
+            process = subprocess.Popen(words, stdout=subprocess.DEVNULL)
             wait = dice.uniform(0, board.longest) if dice.random() < 0.5 else float("inf")
             running.append((name, process, time.monotonic() + wait))
         for it in [*running]:
