@@ -46,6 +46,7 @@ BENCHES = {
         f"--settle {kit.built('posgame_settle')} --play {kit.built('posgame_play')}",
     "Screens of games at a terminal": "table.py screens",
     "Lines typed at a terminal": "table.py lines",
+    "Lines typed at certificates": "duel.py",
     "Files, names and consoles of the system that fail, and kills": "real_files.py",
     "Mutated files, words and dialogues": "fuzz.py --runs 20000",
     "Each allocation of 22 runs refused in turn": "memory.py",

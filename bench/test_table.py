@@ -9,6 +9,7 @@ import shutil
 import tempfile
 import unittest
 
+import duel
 import kit
 import table
 
@@ -136,3 +137,38 @@ class Screens(unittest.TestCase):
             play = table.Play("echo", [], ["b1"])
             shown = table.shown_of(str(program), play)
         self.assertEqual(shown, "X claims: b1\nit was b1\nstatus 0")
+
+
+PAIR = table.Board("maker-breaker", 3, [[0, 1], [0, 2]])
+PROMISE = "I play X and win, whatever you claim.\n"
+
+
+class Duels(unittest.TestCase):
+    def played(self, output: str, *lines: str) -> duel.Duel:
+        found = duel.Duel(PAIR, ["x", "x", "win"], output)
+        found.play("".join(f"{it}\n" for it in lines).encode())
+        return found
+
+    def test_whole(self) -> None:
+        board, more = table.Table(PAIR), table.Table(PAIR)
+        board.claim(0)
+        for point in (0, 1, 2):
+            more.claim(point)
+        output = ("I claim 0.\n" + PROMISE + board.screen() + "I claim 2.\n" + PROMISE
+                  + more.screen())
+        found = self.played(output, "1")
+        self.assertEqual(found.due, output)
+        self.assertEqual(found.record(), "posgame-record 1\nmove 0\nmove 1\nmove 2\n")
+        self.assertTrue(found.is_held())
+
+    def test_undo(self) -> None:
+        board = table.Table(PAIR)
+        board.claim(0)
+        first = "I claim 0.\n" + PROMISE + board.screen()
+        found = self.played(first, "undo", "?", "quit")
+        self.assertEqual(found.due, first + table.REFUSALS["nothing"] + board.turn()
+                         + board.asked("?"))
+
+    def test_other_points(self) -> None:
+        self.assertEqual(self.played("I claim 7.\n").table.moves, [])
+        self.assertFalse(duel.Duel(PAIR, ["x", "y", "win"], "").owes())

@@ -61,7 +61,7 @@ _posgame_read() {
     local at word
     for ((at = 1; at < COMP_CWORD; at++)); do
         word=${COMP_WORDS[at]}
-        if [[ $word == --@(side|positions|entries|nodes|most|record) ]]; then
+        if [[ $word == --@(side|turn|positions|entries|nodes|most|record) ]]; then
             [ "${COMP_WORDS[at + 1]}" = = ] && at=$((at + 1))
             at=$((at + 1))
             ((at < COMP_CWORD)) || pending=$word
@@ -181,12 +181,16 @@ _posgame_play() {
     COMPREPLY=()
     [ "$current" = = ] && current=''
     _posgame_read
-    if [ -n "$pending" ]; then
+    if [[ $pending == --record ]]; then
         _posgame_files record "$current"
+    elif [ -n "$pending" ]; then
+        _posgame_words 'x y' "$current"
     elif [[ $current == -* ]]; then
-        _posgame_words '--record --help --version' "$current"
+        _posgame_words '--record --side --turn --help --version' "$current"
     elif ((place == 0)); then
         _posgame_files game "$current"
+    elif ((place == 1)); then
+        _posgame_files cert "$current"
     fi
 }
 

@@ -80,11 +80,14 @@ read_settle_words() {
     COMMAND=settle GAME=${POSITIONALS[0]} OTHER=${POSITIONALS[1]}
 }
 
-# Sets what `read_words` sets, for posgame-play, whose words are a name and options.
+# Sets what `read_words` sets, for posgame-play, whose words are one or two names and options.
 read_play_words() {
     COMMAND='' FAMILY='' GAME='' FOLDER='' OTHER=''
-    split_words ' --record ' '' "$@" || return 0
-    ((${#POSITIONALS[@]} == 1)) && COMMAND=table GAME=${POSITIONALS[0]} OTHER=$RECORD
+    split_words ' --record --side --turn ' '' "$@" || return 0
+    case ${#POSITIONALS[@]} in
+        1) COMMAND=table GAME=${POSITIONALS[0]} OTHER=$RECORD ;;
+        2) COMMAND=duel GAME=${POSITIONALS[0]} OTHER=${POSITIONALS[1]} ;;
+    esac
 }
 
 # Sets `COMMAND` (empty where the words name none), `FAMILY` (`span`, `vec` or nothing), and the
@@ -120,6 +123,7 @@ find_written() {
     case $COMMAND in
         solve | record | settle | join) WRITTEN=("$OTHER") ;;
         table) WRITTEN=(${OTHER:+"$OTHER"}) ;;
+        duel) WRITTEN=(${RECORD:+"$RECORD"}) ;;
         gen) WRITTEN=("$GAME" ${OTHER:+"$OTHER"}) ;;
         split) WRITTEN=("$FOLDER/plan") ;;
     esac
@@ -339,8 +343,8 @@ ask_again() {
     is_rereadable "$GAME" && ((TICKS - BUILDING_TICKS <= 200)) || return
     [[ $STATUS == 3 ]] || is_rereadable "$file" || return
     case $COMMAND:$STATUS in
-        draw:3 | book:3 | table:3) words=("$GAME") ;;
-        draw:4 | book:4) words=("$@") ;;
+        draw:3 | book:3 | table:3 | duel:3) words=("$GAME") ;;
+        draw:4 | book:4 | duel:4) words=("$@") ;;
         moves:3) words=(moves --positions 1 -- "$GAME") ;;
         settle:3 | split:3 | join:3) words=(--positions 1 -- "$GAME" /dev/null) ;;
         split:4 | join:4) words=(join -- "$GAME" "$FOLDER" /dev/null) ;;

@@ -5,7 +5,8 @@ pub use Rattle.pg_playing.specs.Prelude.{Finished, Follows, Game, Halt, Heard, H
 pub use Rattle.pg_playing.specs.Prelude.{IsMadeForGame, IsRecord, IsWriteHalt, LeadsBy, Look}
 pub use Rattle.pg_playing.specs.Prelude.{MAX_EVENTS, Memory, OpensGame, Play, Position, QuietsBy}
 pub use Rattle.pg_playing.specs.Prelude.{Read, Recorded, Refusal, Refused, Reply, Runs, Said}
-pub use Rattle.pg_playing.specs.Prelude.{Skipped, Starved, Stop, Stopped, Stops, Write, game_held}
+pub use Rattle.pg_playing.specs.Prelude.{Side, Skipped, Starved, Stop, Stopped, Stops, Write}
+pub use Rattle.pg_playing.specs.Prelude.{game_held}
 pub use Rattle.pg_playing.specs.Prelude.{judged_move, point_count, read_reply, reason_of}
 pub use Rattle.pg_playing.specs.Prelude.{record_file, recorded_text, refusal_of, replay}
 pub use Rattle.pg_playing.specs.Prelude.{standing_count, stop_end, talk, trimmed, with_left}

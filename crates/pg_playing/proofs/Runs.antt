@@ -11,7 +11,8 @@ use Rattle.pg_playing.proofs.Common.{kept, not_opened, opened, runs_halt, silent
 use Rattle.pg_files.specs.GameFile.{Entry as GameEntry}
 use Rattle.pg_playing.specs.Courses.{Breaks}
 use Rattle.pg_playing.specs.Playing.{Closed, GivesPlay, GivesTable, IsCutShort, Plays, PlaysGame}
-use Rattle.pg_playing.specs.Playing.{Stores, after_log}
+use Rattle.pg_playing.specs.Playing.{Stores, after_log, turned_to}
+use Rattle.pg_playing.proofs.Common.{Side}
 use Rattle.pg_playing.specs.TableLog.{Closes, Shows, Steps}
 
 -- ---- a game that has ended or was left, and then its record
@@ -153,42 +154,52 @@ module _ (look : Look) (g : Game) (path : Option Bytes) (files : FilesTold)
 abbrev pub Against : Bytes → Holding → Refusal → Type 0
 Against game held refusal = game_held (held game) ≡ Err (Refused refusal)
 
-abbrev pub PlaysHeld : Look → Bytes → Option Bytes → Holding → Done → End → Type 0
-PlaysHeld look game path held = Plays look (game_held (held game)) path
+abbrev pub PlaysHeld : Look
+    → Option Side
+    → Bytes
+    → Option Bytes
+    → Holding
+    → Done
+    → End
+    → Type 0
+PlaysHeld look turn game path held = Plays look turn (game_held (held game)) path
 
-module _ (look : Look) (game : Bytes) (path : Option Bytes) (files mid : FilesTold)
-    (same : mid.held ≡ files.held) where
+module _ (look : Look) (turn : Option Side) (game : Bytes) (path : Option Bytes)
+    (files mid : FilesTold) (same : mid.held ≡ files.held) where
   -- the game wasn't read
   pub plays_halted : (console : ConsoleTold) (halt : Halt)
       → OpensGame files.held game (Err halt)
-      → Runs (Against game) (PlaysHeld look game path) files mid console console (Err halt)
+      → Runs (Against game) (PlaysHeld look turn game path) files mid console console (Err halt)
   plays_halted console halt opens = runs_halt files mid same (Against game)
-      (PlaysHeld look game path) console halt (λ held refusal is this. not_opened entry game_held
-      files.held game held is halt refusal this opens)
+      (PlaysHeld look turn game path) console halt (λ held refusal is this. not_opened entry
+      game_held files.held game held is halt refusal this opens)
 
   -- the game that was read was played
   pub plays_runs : (g : Game) (files' : FilesTold) (before after : ConsoleTold) (r : Result ℕ Halt)
       → OpensGame files.held game (Ok g)
-      → Does (PlaysGame look g path) mid files' before after r
-      → Runs (Against game) (PlaysHeld look game path) files files' before after r
+      → Does (PlaysGame look (turned_to g turn) path) mid files' before after r
+      → Runs (Against game) (PlaysHeld look turn game path) files files' before after r
   plays_runs g files' before after r opens does = go files.held refl r
       (subst (λ (h : Option Holding). IfSome h
-      (λ held. Follows (λ _. ⊥) (PlaysGame look g path) held files' before after r)) same does)
+      (λ held. Follows (λ _. ⊥) (PlaysGame look (turned_to g turn) path) held files' before after
+      r)) same does)
     where
       acts : (held : Holding)
           → files.held ≡ Some held
-          → (done : Done) (end : End) → PlaysGame look g path done end
-          → PlaysHeld look game path held done end
+          → (done : Done) (end : End) → PlaysGame look (turned_to g turn) path done end
+          → PlaysHeld look turn game path held done end
       acts held is done end plays =
-          subst (λ (read : Result GameEntry Halt). Plays look read path done end)
+          subst (λ (read : Result GameEntry Halt). Plays look turn read path done end)
           (sym (opened entry game_held files.held game held is g opens)) (g, refl, plays)
 
       go : (h : Option Holding)
           → files.held ≡ h
           → (r : Result ℕ Halt)
-          → IfSome h (λ held. Follows (λ _. ⊥) (PlaysGame look g path) held files' before after r)
+          → IfSome h
+          (λ held. Follows (λ _. ⊥) (PlaysGame look (turned_to g turn) path) held files' before
+          after r)
           → IfSome h (λ held. Follows (Against game held)
-          (PlaysHeld look game path held) held files' before after r)
+          (PlaysHeld look turn game path held) held files' before after r)
       go None is r does = tt
       go (Some held) is (Ok status) (done, act, changes) =
           (done, acts held is done (Finished status) act, changes)

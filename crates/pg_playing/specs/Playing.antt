@@ -4,7 +4,7 @@ use Rattle.std.specs.Prelude.{⊤}
 use Rattle.pg_playing.specs.Prelude.{Bytes, DONE, Delivers, Done, End, Entry, Event, Failed}
 use Rattle.pg_playing.specs.Prelude.{Finished, Game, Halt, IsGameHalt, IsSaidBy, Look, Refused}
 use Rattle.pg_playing.specs.Prelude.{Starved, Stopped, IsNothing, record_file, recorded_text}
-use Rattle.pg_playing.specs.Prelude.{standing_count}
+use Rattle.pg_playing.specs.Prelude.{Side, standing_count}
 use Rattle.pg_files.specs.GameFile.{Entry as GameEntry}
 use Rattle.pg_playing.specs.TableLog.{IsBegunLog, IsWholeLog}
 
@@ -47,11 +47,22 @@ PlaysGame look g path done (Finished status) = Closed look g path done (Finished
 PlaysGame look g path done Failed = IsCutShort look g done ⊎ Closed look g path done Failed
 PlaysGame look g path done Starved = IsCutShort look g done ⊎ Closed look g path done Starved
 
--- the same of a game that was read
-abbrev pub Plays : Look → Result GameEntry Halt → Option Bytes → Done → End → Type 0
-Plays look (Err halt) path done end = ⊥
-Plays look (Ok entry) path done end =
-    (g : Game) × IsSaidBy entry g × PlaysGame look g path done end
+-- the game in which this side begins, if one is named
+abbrev pub turned_to : Game → Option Side → Game
+turned_to g None = g
+turned_to g (Some turn) = record g { turn = turn }
+
+-- the same of a game that was read, with the side that begins
+abbrev pub Plays : Look
+    → Option Side
+    → Result GameEntry Halt
+    → Option Bytes
+    → Done
+    → End
+    → Type 0
+Plays look turn (Err halt) path done end = ⊥
+Plays look turn (Ok entry) path done end =
+    (g : Game) × IsSaidBy entry g × PlaysGame look (turned_to g turn) path done end
 
 -- how playing a game that was read ends
 abbrev pub GivesTable : Result ℕ Halt → Type 0

@@ -1,6 +1,7 @@
 -- What the definitions of this crate name of std and of the crates below.
 pub use Rattle.pg_base.specs.Texts.{Bytes}
 pub use Rattle.pg_base.specs.declared.score.Score.{Score}
+pub use Rattle.pg_base.specs.declared.side.Side.{Side}
 pub use Rattle.pg_game.specs.Game.{point_count}
 unfoldable pub use Rattle.pg_game.specs.Game.{is_over, outcome}
 pub use Rattle.pg_game.specs.Judge.{IsMadeForGame, judged_move}

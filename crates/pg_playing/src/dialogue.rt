@@ -7,7 +7,7 @@ ghost use Rattle.pg_playing.specs.TableLog.{after_shown, note_of_lines};
 ghost use Rattle.pg_playing.specs.Turns.{Changes, turned};
 
 use crate::note::Note;
-use crate::screen::{answer, screen, shown_of};
+use crate::screen::{answer, shown_of, shown_text};
 use pg_game::{Game, Illegal, Judge};
 use pg_io::{Console, Heard, Stop};
 use pg_messages::ReplyFault;
@@ -39,8 +39,8 @@ pub enum Turn {
     Ended,
 }
 
-/// Why a point isn't claimed.
-fn reason_of(why: Illegal) -> ReplyFault
+/// Returns why a point isn't claimed.
+pub fn reason_of(why: Illegal) -> ReplyFault
     ensures { result ≡ reason_of why }
 {
     match why {
@@ -88,7 +88,7 @@ fn show<C: Console>(
 {
     let ending = judge.over(table.game, &session.position());
     let shown = shown_of(session, table.look);
-    let text = screen(alloc, table.game, &shown, ending)?;
+    let text = shown_text(alloc, table.game, &shown, ending)?;
     say_text(console, text.as_str())?;
     Ok(ending.is_some())
 }
@@ -167,8 +167,8 @@ fn undo<C: Console>(
     }
 }
 
-/// The answer to `lines`, with a point or without.
-fn note_of_lines(game: &Game, through: Option<u32>) -> Note
+/// Returns the answer to `lines`, with a point or without.
+pub fn note_of_lines(game: &Game, through: Option<u32>) -> Note
     ensures { result ≡ note_of_lines game.now through }
 {
     let Some(number) = through else {

@@ -7,6 +7,7 @@ mod note;
 mod playing;
 mod screen;
 
-pub use dialogue::MAX_HEARD;
+pub use dialogue::{MAX_HEARD, Turn, note_of_lines, reason_of};
 pub use note::Note;
-pub use playing::{Order, play};
+pub use playing::{Order, play, store, turned_to};
+pub use screen::{answer, shown_of, shown_text};

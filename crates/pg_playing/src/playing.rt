@@ -4,9 +4,10 @@ ghost use Rattle.pg_playing.specs.Prelude.{BothCauses, DONE, Delivers, Does, IsG
 ghost use Rattle.pg_playing.specs.Prelude.{IsWriteHalt, QuietsBy, Refused, Runs, StoresAt};
 ghost use Rattle.pg_playing.specs.Prelude.{game_held, record_file, recorded_text, standing_count};
 ghost use Rattle.pg_playing.specs.Playing.{GivesPlay, GivesTable, Plays, PlaysGame, Stores};
-ghost use Rattle.pg_playing.specs.Playing.{names_of};
+ghost use Rattle.pg_playing.specs.Playing.{names_of, turned_to};
 
 use crate::dialogue::{Table, play_at_table};
+use pg_base::Side;
 use pg_game::{Game, Judge};
 use pg_io::{Console, Files};
 use pg_messages::{DONE, Message};
@@ -20,10 +21,23 @@ use std::alloc::Global;
 pub struct Order<'a> {
     /// The path of the game.
     pub game: &'a str,
+    /// The side that begins, if it isn't to be the game's.
+    pub turn: Option<Side>,
     /// The path under which the record is stored, if it is to be.
     pub record: Option<&'a str>,
     /// How the board is shown.
     pub look: Look,
+}
+
+/// Returns the game in which this side begins, if one is named.
+pub fn turned_to(game: Game, turn: Option<Side>) -> Game
+    ensures { result ≡ turned_to game turn }
+{
+    let mut game = game;
+    if let Some(turn) = turn {
+        game.turn = turn;
+    }
+    game
 }
 
 /// Stores the record of a session under a path, and prints how many points stand.
@@ -49,7 +63,11 @@ fn store_record<F: Files, C: Console>(
 }
 
 /// Stores the record of a session under a path, if there is one, and prints how many points stand.
-fn store<F: Files, C: Console>(
+///
+/// # Errors
+///
+/// `Halt::Stopped` if a call on files or the console has failed, or memory ran out.
+pub fn store<F: Files, C: Console>(
     alloc: Global,
     session: &Session<'_>,
     path: Option<&str>,
@@ -117,7 +135,7 @@ pub fn play<F: Files, C: Console>(
 ) -> Result<u8, Halt>
     ensures ran { Runs
         (λ held refusal. game_held (held order.entry.game.now) ≡ Err (Refused refusal))
-        (λ held. Plays order.entry.look (game_held (held order.entry.game.now))
+        (λ held. Plays order.entry.look order.entry.turn (game_held (held order.entry.game.now))
         (option_copied order.entry.record))
         (F.told files.old) (F.told files.new) (C.told console.old) (C.told console.new) result }
     ensures causes { BothCauses (IsGameLacking (F.told files.old).held order.entry.game.now)
@@ -127,6 +145,7 @@ pub fn play<F: Files, C: Console>(
         (F.told files.old) (F.told files.new) }
     ensures gives { GivesPlay result }
 {
-    let game = open_game(alloc, files, order.game)?;
+    let said = open_game(alloc, files, order.game)?;
+    let game = turned_to(said, order.turn);
     play_game(alloc, &game, order, files, console)
 }

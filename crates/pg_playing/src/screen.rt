@@ -22,8 +22,8 @@ fn last_of(session: &Session<'_>) -> Option<u16>
     Some(session.move_at(count - 1))
 }
 
-/// What is shown of a session.
-pub(crate) fn shown_of(session: &Session<'_>, look: Look) -> Shown
+/// Returns what is shown of a session.
+pub fn shown_of(session: &Session<'_>, look: Look) -> Shown
     ensures { result ≡ shown_of look session.now.game session.now.events }
 {
     Shown {
@@ -48,10 +48,10 @@ fn put_ending(
     }
 }
 
-/// The text that shows a position: what the sides want, the board, and whose turn it is or who has
-/// won.
+/// Returns the text that shows a position: what the sides want, the board, and whose turn it is or
+/// who has won. An error means that memory ran out.
 #[tactic(auto, unfolding(crate::specs::Screens::shown_text))]
-pub(crate) fn screen(
+pub fn shown_text(
     alloc: Global,
     game: &Game,
     shown: &Shown,
@@ -67,13 +67,9 @@ pub(crate) fn screen(
     Ok(out)
 }
 
-/// The text that answers a line that changes nothing, and says whose turn it is.
-pub(crate) fn answer(
-    alloc: Global,
-    game: &Game,
-    position: &Position,
-    note: Note,
-) -> Result<String, Memory>
+/// Returns the text that answers a line that changes nothing, and says whose turn it is. An error
+/// means that memory ran out.
+pub fn answer(alloc: Global, game: &Game, position: &Position, note: Note) -> Result<String, Memory>
     ensures { IfOk result (λ text. string_bytes text
         ≡ answer_text game.now position.now note) }
 {

@@ -3,19 +3,29 @@ use crate::usage::{Asked, NAME};
 use pg_messages::{NO_MEMORY, READ_FAILED, WRITE_FAILED};
 use std::fs;
 
-/// Says why the game's file can't be read.
-fn say_unreadable(rt: &HostRuntime, name: &str) {
-    let _ = match fs::File::open(rt, name) {
-        Ok(_) => eprintln!(rt; "{NAME}: {name} or standard input couldn't be read"),
-        Err(error) => eprintln!(rt; "{NAME}: {name}: {error}"),
+/// Says why a file can't be read, and returns whether it can't.
+fn is_unreadable(rt: &HostRuntime, name: &str) -> bool {
+    let Err(error) = fs::File::open(rt, name) else {
+        return false;
     };
+    let _ = eprintln!(rt; "{NAME}: {name}: {error}");
+    true
+}
+
+/// Says which file can't be read, and why.
+fn say_unreadable(rt: &HostRuntime, asked: &Asked<'_>) {
+    let game = asked.game;
+    let last = asked.certificate.unwrap_or(game);
+    if !is_unreadable(rt, game) && !is_unreadable(rt, last) {
+        let _ = eprintln!(rt; "{NAME}: {last} or standard input couldn't be read");
+    }
 }
 
 /// Says what statuses of calls and memory mean; the codes of faults are on standard output.
 pub(crate) fn say(rt: &HostRuntime, status: u8, asked: &Asked<'_>) {
     let _ = match status {
         READ_FAILED => {
-            say_unreadable(rt, asked.game);
+            say_unreadable(rt, asked);
             Ok(())
         }
         WRITE_FAILED => eprintln!(rt; "{NAME}: the record or standard output couldn't be written"),

@@ -1,6 +1,8 @@
 //! The command line of the program, as `clap` reads it.
+use clap::builder::ValueParser;
 use clap::error::ErrorKind;
 use clap::{Arg, Command, Error};
+use pg_base::Side;
 use pg_messages::{DONE, NO_MEANING, NO_MEMORY};
 use std::alloc::Global;
 
@@ -15,15 +17,37 @@ pub(crate) const NAME: &str = "posgame-play";
 pub(crate) struct Asked<'a> {
     /// The path of the game.
     pub(crate) game: &'a str,
+    /// The path of the certificate by which the program plays.
+    pub(crate) certificate: Option<&'a str>,
+    /// The side that the program plays.
+    pub(crate) side: Option<Side>,
+    /// The side that begins.
+    pub(crate) turn: Option<Side>,
     /// The path under which the record is stored.
     pub(crate) record: Option<&'a str>,
 }
 
-/// Returns the command with its positional argument and its option.
+/// Returns an option that names a side.
+fn side<'a>(alloc: Global, name: &'a str, help: &'a str) -> Arg<'a> {
+    Arg::new(alloc, name)
+        .long(name)
+        .value_name("S")
+        .value_parser(ValueParser::Names(&["x", "y"]))
+        .help(help)
+}
+
+/// Returns the command with its positional arguments and its options.
 fn command<'a>(alloc: Global) -> Result<Command<'a>, Error> {
     let game = Arg::new(alloc, "GAME")
         .required(true)
         .help("The file of a game");
+    let certificate = Arg::new(alloc, "CERT").help(
+        "The file of a certificate, by which the program plays a side",
+    );
+    let played = side(alloc, "side", "The side that the program plays by CERT").requires_arg(
+        "CERT",
+    )?;
+    let begins = side(alloc, "turn", "The side that begins");
     let record = Arg::new(alloc, "record")
         .long("record")
         .value_name("FILE")
@@ -31,10 +55,18 @@ fn command<'a>(alloc: Global) -> Result<Command<'a>, Error> {
     let command = Command::new(alloc, NAME)
         .no_binary_name(true)
         .version(VERSION)
-        .about("Lets two people play a positional game at one terminal")
+        .about("Plays a positional game at a terminal: two people, or one against a certificate")
         .arg(game)?
+        .arg(certificate)?
+        .arg(played)?
+        .arg(begins)?
         .arg(record)?;
     Ok(command)
+}
+
+/// Returns the side of this name, if there is a name.
+fn side_named(name: Option<&str>) -> Option<Side> {
+    Side::from_word(name?.as_bytes())
 }
 
 /// Returns what the words ask for; or what `clap` has to say of them: the help or the version that
@@ -43,6 +75,9 @@ pub(crate) fn read_words<'a>(alloc: Global, words: &'a [String]) -> Result<Asked
     let found = command(alloc)?.try_get_matches_from(words)?;
     Ok(Asked {
         game: found.get_str("GAME").unwrap_or(""),
+        certificate: found.get_str("CERT"),
+        side: side_named(found.get_str("side")),
+        turn: side_named(found.get_str("turn")),
         record: found.get_str("record"),
     })
 }

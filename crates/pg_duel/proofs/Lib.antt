@@ -1,0 +1,4 @@
+mod Common
+pub mod Parts
+pub mod Answering
+pub mod Runs

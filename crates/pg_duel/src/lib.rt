@@ -1,0 +1,10 @@
+//! A game of a person against the program at one terminal: the program plays the side that a claim
+//! of a checked certificate speaks of.
+#![tactic(auto)]
+
+mod claims;
+mod dialogue;
+mod playing;
+mod words;
+
+pub use playing::{Challenge, duel};

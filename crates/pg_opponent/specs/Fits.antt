@@ -1,0 +1,41 @@
+-- What a game of the program keeps.
+use Rattle.std.specs.Prelude.{◌≡◌, ℕ, ◌<◌, List, ◌++◌, length, map, true, is_ok}
+use Rattle.std.specs.List.{All}
+use Rattle.pg_opponent.specs.Prelude.{Claim, Event, Game, IsRecord, Play, Waits, judged_move}
+use Rattle.pg_opponent.specs.Prelude.{point_count, standing}
+use Rattle.pg_opponent.specs.Sitting.{Makes, Sitting, place}
+
+-- the events are those of a session, and none of them takes a point back
+pub record IsLegal (g : Game) (events : List Event) : Type 0 where
+  pub allowed : IsRecord g events
+  pub stands : length (standing events) ≡ length events
+
+-- the point may be played
+abbrev pub MayPlay : Game → List Event → ℕ → Type 0
+MayPlay g events v = is_ok (judged_move g (place g events) v) ≡ true
+
+-- the player plays this game by this claim, the events are what it has played, and its points are
+-- the game's
+pub record IsOn (g : Game) (c : Claim) (s : Sitting) : Type 0 where
+  pub same_game : s.player.game ≡ g
+  pub same_claim : s.player.claim ≡ c
+  pub legal : IsLegal g s.events
+  pub position : s.player.position ≡ place g s.events
+  pub within : All (λ v. v < point_count g) s.own
+
+-- and the program owes no move
+pub record IsFit (g : Game) (c : Claim) (s : Sitting) : Type 0 where
+  pub on : IsOn g c s
+  pub waits : Waits s.player
+
+-- the player has made further moves
+pub record Led (s t : Sitting) : Type 0 where
+  pub own : List ℕ
+  pub makes : Makes s.player own t.player
+  pub more : t.own ≡ s.own ++ own
+  pub events : t.events ≡ s.events ++ map Play own
+  pub replies : t.replies ≡ s.replies
+
+-- all that it owes
+abbrev pub Went : Sitting → Sitting → Type 0
+Went s t = Led s t × Waits t.player
