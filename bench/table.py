@@ -39,6 +39,8 @@ lines    shows the lines that are open, and lines P those through P
 quit     leaves the game
 """
 GOALS = {
+    "switching": "X wants to join 0 and 1 by edges, and O to part them.\n",
+    "Bridg-It": "X wants to join the left and the right, and O the top and the bottom.\n",
     "maker-breaker": "X wants to claim all points of a line, and O to prevent it.\n",
     "maker-maker": "The first side to claim all points of a line wins.\n",
     "avoider-enforcer": "X loses by claiming all points of a line.\n",
@@ -82,6 +84,10 @@ class Board(NamedTuple):
             return str(point)
         return column_name(point % self.width) + str(point // self.width + 1)
 
+    def rows(self) -> int:
+        """Returns the rows of the Bridg-It board that the graph is, 0 if it is none."""
+        return next((it for it in range(1, 23) if self.graph == kit.bridge(it)), 0)
+
     def joins(self, x: kit.Points, y: kit.Points) -> Optional[int]:
         """Returns the score on a graph if the game is over, else None."""
         assert self.graph
@@ -93,8 +99,7 @@ class Board(NamedTuple):
 
     def goals(self) -> str:
         """Returns what each side wants."""
-        said = "X wants to join 0 and 1 by edges, and O to part them.\n" if self.graph \
-            else GOALS[self.kind]
+        said = GOALS["Bridg-It" if self.rows() else self.kind]
         return said + (f"O claims {self.bias} points in a turn.\n" if self.bias > 1 else "")
 
 
@@ -146,6 +151,48 @@ class Table:
                 for row in range(board.points // board.width))
         return "\n".join([f"    {heads}", *rows, ""])
 
+    def place(self, edge: int, is_across: bool) -> str:
+        """Returns what is at the place of an edge; `is_across` says whether X's stroke leads across
+        there."""
+        x, y, _, _ = self.places[-1]
+        if edge not in x and edge not in y:
+            return f"{edge:>3}"
+        stroke = "-" if (edge in x) == is_across else "|"
+        if self.moves[-1] == edge:
+            return f"[{stroke}]"
+        return "---" if stroke == "-" else " | "
+
+    def paper(self, rows: int) -> list[list[str]]:
+        """Returns what is at each place of a Bridg-It board: dots, borders and edges, row by
+        row."""
+        span = 2 * rows + 1
+        places = [["   "] * span for _ in range(span)]
+        for it in range(2, span - 1, 2):
+            places[0][it] = places[-1][it] = "---"
+            places[it][0] = places[it][-1] = " | "
+        for row in range(rows):
+            for column in range(rows):
+                at = self.place(row * rows + column, True)
+                places[2 * row + 1][2 * column + 1] = at
+        for row in range(rows - 1):
+            for column in range(rows - 1):
+                at = self.place(rows * rows + row * (rows - 1) + column, False)
+                places[2 * row + 2][2 * column + 2] = at
+        for row, line in enumerate(places):
+            for column in range(1 - row % 2, span, 2):
+                ends = [line[it][1] == "-" if 0 <= it < span else False
+                        for it in (column - 1, column + 1)]
+                left, right = ("-" if it else " " for it in ends)
+                line[column] = left + "ox"[row % 2] + right
+        return places
+
+    def on_paper(self, rows: int) -> str:
+        """Returns the text of a Bridg-It board."""
+        places, per = self.paper(rows), max(self.columns // 3, 1)
+        parts = ("".join("".join(row[first:first + per]) + "\n" for row in places)
+                 for first in range(0, 2 * rows + 1, per))
+        return "to the right of that:\n".join(parts)
+
     def entry(self, point: int) -> str:
         """Returns the entry of a point or an edge on a board without cells."""
         if not self.board.graph:
@@ -160,6 +207,8 @@ class Table:
         if board.width:
             per = max((self.columns - 4) // 3, 1)
             return "".join(self.part(it) for it in range(0, board.width, per))
+        if rows := board.rows():
+            return self.on_paper(rows)
         per = max(self.columns // (16 if board.graph else 5), 1)
         rows = ("".join(self.entry(it) for it in range(first, min(first + per, board.points)))
                 for first in range(0, board.points, per))
@@ -296,6 +345,8 @@ BOARDS = {
     "a ring": Board("avoider-enforcer", 10, kit.scatter(5, 10, 20, 4)),
     "many lines": Board("maker-maker", 14, kit.scatter(6, 14, 30, 5)),
     "Bridg-It": Board("switching", 13, [], graph=kit.bridge(3)),
+    "wide Bridg-It": Board("switching", 365, [], graph=kit.bridge(14)),
+    "a graph": Board("switching", 15, [], graph=kit.complete(6)),
 }
 
 

@@ -39,6 +39,36 @@ class Rules(unittest.TestCase):
         game.claim(1)
         self.assertEqual(game.picture(), "  0:  0-2   .     1:  2-1  [X]  \n")
 
+    def test_paper(self) -> None:
+        game = table.Table(table.BOARDS["Bridg-It"])
+        for point in (4, 9, 6):
+            game.claim(point)
+        self.assertEqual(game.picture(), """\
+    o-----o-----o    
+ x   0 x   1 x   2 x 
+ |  o-----o  10 o  | 
+ x   3 x-----x   5 x 
+ |  o  11 o  12 o  | 
+ x-[-]-x   7 x   8 x 
+    o-----o-----o    
+""")
+
+    def test_paper_in_parts(self) -> None:
+        game = table.Table(table.Board("switching", 5, [], graph=kit.bridge(2)), 9)
+        self.assertEqual(game.picture(), """\
+    o----
+ x   0 x 
+ |  o   4
+ x   2 x 
+    o----
+to the right of that:
+-o    
+  1 x 
+ o  | 
+  3 x 
+-o    
+""")
+
     def test_names(self) -> None:
         game = table.Table(table.BOARDS["a wide grid"])
         found = [game.point(it) for it in ("ad2", "ae1", "a3", "a0", "59", "b01", "lines")]

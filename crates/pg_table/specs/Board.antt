@@ -5,19 +5,26 @@ use Rattle.pg_base.specs.declared.grid.Grid.{Grid}
 use Rattle.pg_game.specs.declared.field.Field.{Field}
 use Rattle.pg_game.specs.declared.field.Field.TheVariants.{Lines, Graph as OnGraph}
 use Rattle.pg_game.specs.declared.game.Game.{Game}
+use Rattle.pg_table.specs.Bridges.{paper_rows}
 use Rattle.pg_table.specs.Entries.{entries_text}
-use Rattle.pg_table.specs.Grids.{grid_text}
 use Rattle.pg_table.specs.OpenLines.{lines_text}
+use Rattle.pg_table.specs.Sheets.{sheet_text}
+use Rattle.pg_table.specs.declared.sheets.Sheet.TheVariants.{Cells, Paper}
 use Rattle.pg_table.specs.declared.shown.Shown.{Shown}
 
--- a field of so many points: a grid of cells, or entries in rows
-abbrev pub points_picture : Game → Shown → ℕ → Option Grid → Bytes
-points_picture g s points (Some grid) = grid_text grid.width points s
-points_picture g s points None = entries_text g s
+-- a field of points: a grid of cells, or entries in rows
+abbrev pub points_picture : Game → Shown → Option Grid → Bytes
+points_picture g s (Some grid) = sheet_text (Cells grid.width grid.height) s
+points_picture g s None = entries_text g s
+
+-- a graph: the Bridg-It board of so many rows as it is on paper, or entries in rows
+abbrev pub graph_picture : Game → Shown → Option ℕ → Bytes
+graph_picture g s (Some rows) = sheet_text (Paper rows) s
+graph_picture g s None = entries_text g s
 
 abbrev pub field_picture : Game → Shown → Field → Bytes
-field_picture g s (Lines f) = points_picture g s f.points f.grid
-field_picture g s (OnGraph h) = entries_text g s
+field_picture g s (Lines f) = points_picture g s f.grid
+field_picture g s (OnGraph h) = graph_picture g s (paper_rows h)
 
 abbrev pub picture_text : Game → Shown → Bytes
 picture_text g s = field_picture g s g.field

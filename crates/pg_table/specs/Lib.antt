@@ -1,7 +1,10 @@
 pub mod Names
 pub mod Marks
 pub mod Entries
-pub mod Grids
+pub mod Spots
+pub mod Bridges
+pub mod Paper
+pub mod Sheets
 pub mod OpenLines
 pub mod Board
 pub mod Words

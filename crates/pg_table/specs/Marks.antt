@@ -1,5 +1,6 @@
 -- The marks of points, each three characters wide.
-use Rattle.std.specs.Prelude.{ℕ, ◌++◌, ◌==◌, Bool, true, false, if◌then◌else◌, ◌∷◌, codes, Option}
+use Rattle.std.specs.Prelude.{ℕ, ◌++◌, ◌==◌, Bool, true, false, if◌then◌else◌, ◌∷◌, [], codes}
+use Rattle.std.specs.Prelude.{Option}
 use Rattle.std.specs.Prelude.{Some, None}
 use Rattle.std.specs.FinSet.{contains}
 use Rattle.pg_base.specs.Texts.{Bytes}
@@ -20,6 +21,13 @@ colour_of Y = 27 ∷ codes "[34m"
 
 abbrev pub plain : Bytes
 plain = 27 ∷ codes "[0m"
+
+-- what begins and ends a colour, if marks are coloured
+abbrev pub tint : Bool → Side → Bytes
+tint colour side = if colour then colour_of side else []
+
+abbrev pub untint : Bool → Bytes
+untint colour = if colour then plain else []
 
 -- the letter of a side, in its colour if marks are coloured
 abbrev pub painted : Bool → Side → Bytes

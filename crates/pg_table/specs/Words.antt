@@ -1,5 +1,6 @@
 -- What is said of a game to people.
-use Rattle.std.specs.Prelude.{ℕ, ◌++◌, nat_lt, if◌then◌else◌, [], codes, decimal}
+use Rattle.std.specs.Prelude.{ℕ, ◌++◌, nat_lt, if◌then◌else◌, [], codes, decimal, Option}
+use Rattle.std.specs.Prelude.{Some, None}
 use Rattle.pg_base.specs.Texts.{Bytes}
 use Rattle.pg_base.specs.declared.kind.Kind.{Kind}
 use Rattle.pg_base.specs.declared.kind.Kind.TheVariants.{MakerBreaker, MakerMaker}
@@ -11,8 +12,9 @@ use Rattle.pg_game.specs.declared.field.Field.TheVariants.{Lines, Graph as OnGra
 use Rattle.pg_game.specs.declared.game.Game.{Game}
 use Rattle.pg_game.specs.declared.position.Position.{Position}
 use Rattle.pg_graph.specs.declared.graph.Graph.{Graph}
+use Rattle.pg_table.specs.Bridges.{paper_rows}
 use Rattle.pg_table.specs.Marks.{letter_of}
-use Rattle.pg_table.specs.declared.words.TheConstants.{COMMANDS}
+use Rattle.pg_table.specs.declared.words.TheConstants.{COMMANDS, PAPER_GOALS}
 
 -- what each side wants in games of a kind on lines
 abbrev pub kind_goals : Kind → Bytes
@@ -21,10 +23,14 @@ kind_goals MakerMaker = codes "The first side to claim all points of a line wins
 kind_goals AvoiderEnforcer = codes "X loses by claiming all points of a line.\n"
 kind_goals Switching = []
 
--- what each side wants on a graph
-abbrev pub graph_goals : Graph → Bytes
-graph_goals h = codes "X wants to join "
+-- what each side wants on a graph: on the Bridg-It board of so many rows, which sides of the board
+abbrev pub goals_on : Graph → Option ℕ → Bytes
+goals_on h (Some rows) = PAPER_GOALS.now
+goals_on h None = codes "X wants to join "
     ++ (decimal h.s ++ (codes " and " ++ (decimal h.t ++ codes " by edges, and O to part them.\n")))
+
+abbrev pub graph_goals : Graph → Bytes
+graph_goals h = goals_on h (paper_rows h)
 
 -- how many points O claims in a turn, if it claims several
 abbrev pub bias_text : ℕ → Bytes

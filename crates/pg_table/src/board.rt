@@ -2,21 +2,40 @@
 ghost use Rattle.std.specs.Prelude.{◌≡◌, ◌++◌, OnOk, string_bytes};
 ghost use Rattle.pg_table.specs.Board.{board_text, open_text, picture_text};
 
+use crate::bridges::paper_rows;
 use crate::entries::put_entries;
-use crate::grid::put_grid;
 use crate::open_lines::put_lines;
+use crate::sheets::{Sheet, put_sheet};
 use crate::shown::Shown;
+use pg_base::Grid;
 use pg_game::{Field, Game};
 use std::alloc::AllocError;
 
-/// Adds the picture of a board: a grid of cells, or entries in rows.
+/// The sheet of a board of cells.
+fn cells_of(grid: Grid) -> Sheet
+    ensures { result ≡ Sheet.Cells grid.width grid.height }
+{
+    Sheet::Cells {
+        width: grid.width,
+        height: grid.height,
+    }
+}
+
+/// Adds the picture of a board: a grid of cells, Bridg-It as on paper, or entries in rows.
 fn put_picture(out: &mut String, game: &Game, shown: &Shown) -> Result<(), AllocError>
     ensures { OnOk result (string_bytes out.new
         ≡ string_bytes out.old ++ picture_text game.now shown.now) }
 {
-    if let Field::Lines(field) = &game.field {
-        if let Some(grid) = field.grid {
-            return put_grid(out, grid.width, field.points, shown);
+    match &game.field {
+        Field::Lines(field) => {
+            if let Some(grid) = field.grid {
+                return put_sheet(out, cells_of(grid), shown);
+            }
+        }
+        Field::Graph(graph) => {
+            if let Some(rows) = paper_rows(graph) {
+                return put_sheet(out, Sheet::Paper { rows }, shown);
+            }
         }
     }
     put_entries(out, game, shown)

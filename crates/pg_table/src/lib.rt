@@ -2,14 +2,17 @@
 #![tactic(auto)]
 
 mod board;
+mod bridges;
 mod entries;
-mod grid;
 pub mod laws;
 mod marks;
 mod names;
 mod open_lines;
+mod paper;
 mod reply;
+mod sheets;
 mod shown;
+mod spots;
 mod words;
 
 pub use board::put_board;

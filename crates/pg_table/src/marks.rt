@@ -2,7 +2,7 @@
 ghost use Rattle.std.specs.Prelude.{◌≡◌, ◌<◌, ◌++◌, OnOk, string_bytes};
 ghost use Rattle.pg_base.specs.declared.limits.TheConstants.{MAX_MEMBERS};
 ghost use Rattle.pg_table.specs.Marks.{colour_of, is_last, letter_of, mark_of, mark_text, marked};
-ghost use Rattle.pg_table.specs.Marks.{painted};
+ghost use Rattle.pg_table.specs.Marks.{painted, tint, untint};
 
 use crate::shown::Shown;
 use pg_base::{MAX_MEMBERS, Side};
@@ -30,6 +30,26 @@ fn colour_of(side: Side) -> &'static str
     }
 }
 
+/// Adds the bytes that begin the colour of a side, if marks are coloured.
+pub(crate) fn put_tint(out: &mut String, colour: bool, side: Side) -> Result<(), AllocError>
+    ensures { OnOk result (string_bytes out.new ≡ string_bytes out.old ++ tint colour side) }
+{
+    if colour {
+        out.push_str(colour_of(side))?;
+    }
+    Ok(())
+}
+
+/// Adds the bytes that end a colour, if marks are coloured.
+pub(crate) fn put_untint(out: &mut String, colour: bool) -> Result<(), AllocError>
+    ensures { OnOk result (string_bytes out.new ≡ string_bytes out.old ++ untint colour) }
+{
+    if colour {
+        out.push_str("\x1b[0m")?;
+    }
+    Ok(())
+}
+
 /// Adds the letter of a side, in its colour if marks are coloured.
 fn put_letter(out: &mut String, colour: bool, side: Side) -> Result<(), AllocError>
     ensures { OnOk result (string_bytes out.new ≡ string_bytes out.old ++ painted colour side) }
@@ -44,7 +64,7 @@ fn put_letter(out: &mut String, colour: bool, side: Side) -> Result<(), AllocErr
 }
 
 /// Whether the point is the one that was claimed last.
-fn is_last(last: Option<u16>, point: u16) -> bool
+pub(crate) fn is_last(last: Option<u16>, point: u16) -> bool
     ensures { result ≡ is_last last point }
 {
     match last {
@@ -54,7 +74,7 @@ fn is_last(last: Option<u16>, point: u16) -> bool
 }
 
 /// The side that has the point.
-fn mark_of(position: &Position, point: u16) -> Option<Side>
+pub(crate) fn mark_of(position: &Position, point: u16) -> Option<Side>
     requires { point < MAX_MEMBERS }
     ensures { result ≡ mark_of position.now point }
 {

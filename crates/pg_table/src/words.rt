@@ -3,6 +3,7 @@ ghost use Rattle.std.specs.Prelude.{◌≡◌, ◌++◌, OnOk, string_bytes};
 ghost use Rattle.pg_table.specs.Words.{bias_text, goals_text, help_text, result_text, turn_text};
 ghost use Rattle.pg_table.specs.Words.{graph_goals, kind_goals};
 
+use crate::bridges::paper_rows;
 use crate::marks::letter_of;
 use pg_base::{Kind, Score};
 use pg_game::{Field, Game, Position};
@@ -18,6 +19,10 @@ lines    shows the lines that are open, and lines P those through P
 quit     leaves the game
 ";
 
+/// What each side wants on a Bridg-It board, as it is drawn on paper.
+pub const PAPER_GOALS: &str =
+    "X wants to join the left and the right, and O the top and the bottom.\n";
+
 /// What each side wants in games of a kind on lines.
 fn kind_goals(kind: Kind) -> &'static str
     ensures { result.now ≡ kind_goals kind }
@@ -30,11 +35,14 @@ fn kind_goals(kind: Kind) -> &'static str
     }
 }
 
-/// Adds what each side wants on a graph.
+/// Adds what each side wants on a graph: on a Bridg-It board, which sides of the board.
 fn put_graph_goals(out: &mut String, graph: &Graph) -> Result<(), AllocError>
     ensures { OnOk result (string_bytes out.new
         ≡ string_bytes out.old ++ graph_goals graph.now) }
 {
+    if paper_rows(graph).is_some() {
+        return out.push_str(PAPER_GOALS);
+    }
     let s = graph.s;
     let t = graph.t;
     write!(
