@@ -5,6 +5,7 @@ use Rattle.pg_drawing.specs.Prelude.{Bytes, Holding, Game, IsFirstFault, IsValid
 use Rattle.pg_drawing.specs.Prelude.{IsSpanValid, SpanCert, SpanGame, span_entry, refusal_status}
 use Rattle.pg_drawing.specs.Prelude.{NoMeaning, DONE, NO_MEANING, REFUSED, Halt, Refused, Stopped}
 use Rattle.pg_drawing.specs.Prelude.{IsSaidBy, IsSceneOfGame, IsSceneOfNode, LacksNode}
+use Rattle.pg_drawing.specs.Prelude.{Evidence, Refusal, RejectsImages, StandsFor}
 use Rattle.pg_span.specs.Flaw.{flaw_number}
 use Rattle.pg_span.specs.declared.flaw.SpanFlaw.{SpanFlaw}
 use Rattle.pg_messages.specs.Texts.{refusal_text}
@@ -56,6 +57,12 @@ pub record DrawsSpanClaim (look : Look) (g : SpanGame) (c : SpanCert) (claim : �
 
 -- ---- certificates
 
+-- what stands against reading it is said
+abbrev pub IsHaltDue : Halt → Bytes → ℕ → Type 0
+IsHaltDue (Refused refusal) text status =
+    (text ≡ refusal_text refusal) × (status ≡ refusal_status refusal)
+IsHaltDue (Stopped stop) text status = ⊥
+
 -- there is no such node, and that is said
 abbrev pub SaysNoNode : Bytes → ℕ → Type 0
 SaysNoNode text status = (text ≡ NO_NODE.now) × (status ≡ NO_MEANING)
@@ -79,6 +86,36 @@ pub record IsFaultDue (look : Look) (g : Game) (c : Cert) (text : Bytes) (status
 abbrev pub IsCertDue : Look → Game → Cert → NodeName → Bytes → ℕ → Type 0
 IsCertDue look g c name text status =
     (IsValid g c × IsNodeDue look g c name text status) ⊎ IsFaultDue look g c text status
+
+-- the certificate for which one in either form stands: a node of it, or its first faulty one
+pub record IsStandingDue (look : Look) (g : Game) (e : Evidence) (name : Option NodeName)
+    (text : Bytes) (status : ℕ) : Type 0 where
+  pub cert : Cert
+  pub stands : StandsFor g e cert
+  pub due : IsCertDue look g cert (chosen cert name) text status
+
+-- why it stands for none: the first fault of its images
+pub record IsImageRejection (g : Game) (e : Evidence) (text : Bytes) (status : ℕ) : Type 0 where
+  pub refusal : Refusal
+  pub rejects : RejectsImages g e refusal
+  pub text_is : text ≡ refusal_text refusal
+  pub status_is : status ≡ refusal_status refusal
+
+-- a certificate in either form
+abbrev pub IsEvidenceDue : Look → Game → Evidence → Option NodeName → Bytes → ℕ → Type 0
+IsEvidenceDue look g e name text status =
+    IsStandingDue look g e name text status ⊎ IsImageRejection g e text status
+
+-- what a name says, in either form
+abbrev pub IsFormDue : Look
+    → Game
+    → Option NodeName
+    → Result Evidence Halt
+    → Bytes
+    → ℕ
+    → Type 0
+IsFormDue look g name (Err halt) text status = IsHaltDue halt text status
+IsFormDue look g name (Ok evidence) text status = IsEvidenceDue look g evidence name text status
 
 -- ---- certificates of connectivity games
 
@@ -109,12 +146,6 @@ IsSpanCertDue look g c name text status =
 
 -- ---- what was read
 
--- what stands against reading it is said
-abbrev pub IsHaltDue : Halt → Bytes → ℕ → Type 0
-IsHaltDue (Refused refusal) text status =
-    (text ≡ refusal_text refusal) × (status ≡ refusal_status refusal)
-IsHaltDue (Stopped stop) text status = ⊥
-
 -- a game that was read
 abbrev pub IsDueOfGame : Look → Result BoardEntry Halt → Bytes → ℕ → Type 0
 IsDueOfGame look (Err halt) text status = IsHaltDue halt text status
@@ -126,8 +157,8 @@ IsDueOfGame look (Ok (Connectivity e)) text status =
 -- a game and a certificate that were read
 abbrev pub IsDueOfBoth : Look → Option NodeName → Result PairEntry Halt → Bytes → ℕ → Type 0
 IsDueOfBoth look name (Err halt) text status = IsHaltDue halt text status
-IsDueOfBoth look name (Ok (PositionalPair e c)) text status =
-    (g : Game) × IsSaidBy e g × IsCertDue look g c (chosen c name) text status
+IsDueOfBoth look name (Ok (PositionalPair e evidence)) text status =
+    (g : Game) × IsSaidBy e g × IsEvidenceDue look g evidence name text status
 IsDueOfBoth look name (Ok (ConnectivityPair e c)) text status =
     (g : SpanGame) × (span_entry g ≡ e) × IsSpanCertDue look g c (chosen_claim name) text status
 

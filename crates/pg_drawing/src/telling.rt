@@ -2,19 +2,21 @@
 ghost use Rattle.std.specs.Prelude.{◌≡◌, Some, Ok, IfErr, IfOk, map, string_bytes};
 ghost use Rattle.pg_drawing.specs.Prelude.{IsAbsent, ReadsOnly, entry, span_entry, HaltCauses};
 ghost use Rattle.pg_drawing.specs.Prelude.{IsGameHalt, IsReadHalt, IsLackingOne, IsLackingTwo};
-ghost use Rattle.pg_drawing.specs.Prelude.{DONE};
+ghost use Rattle.pg_drawing.specs.Prelude.{DONE, evidence_held};
 ghost use Rattle.pg_drawing.specs.Boards.{board_entry, board_held, both_held, with_certificate};
 ghost use Rattle.pg_drawing.specs.Boards.BoardEntry.{Positional, Connectivity};
-ghost use Rattle.pg_drawing.specs.Due.{Finds, IsDue, IsDueOfBoth, IsDueOfGame};
+ghost use Rattle.pg_drawing.specs.Due.{Finds, IsDue, IsDueOfBoth, IsDueOfGame, IsFormDue};
 ghost use Rattle.pg_drawing.specs.Orders.{order_of};
 ghost use Rattle.pg_drawing.specs.Runs.{Gives, IsCertEnd, IsLacking};
 
 use crate::board::Board;
 use crate::claims::{span_game_text, tell_span_certificate};
 use crate::name::{NodeName, node_named};
-use crate::opening::{open_board, open_certificate};
+use crate::opening::{begins_otherwise, open_board, open_certificate};
 use crate::picturing::{Telling, game_text, tell_certificate};
+use crate::standing::tell_evidence;
 use pg_base::Memory;
+use pg_evidence::open_evidence;
 use pg_families::open_span_cert;
 use pg_game::Game;
 use pg_io::Files;
@@ -58,7 +60,29 @@ fn tell_game<F: Files>(
     })
 }
 
+/// The picture of a node of the certificate under a name in either form.
+fn tell_node_in<F: Files>(
+    alloc: Global,
+    look: Look,
+    files: &mut F,
+    game: &Game,
+    certificate: &str,
+    name: Option<NodeName>,
+) -> Result<Telling, Halt>
+    ensures found { Finds (F.told files.old).held
+        (λ held. IsFormDue look game.now name (evidence_held (held certificate.now))) result }
+    ensures done { IfOk result (λ told. IsCertEnd told.status) }
+    ensures halts { IfErr result IsReadHalt }
+    ensures causes { HaltCauses (IsAbsent (F.told files.old).held certificate.now)
+        (F.told files.old).faults (F.told files.new).faults result }
+    ensures kept { ReadsOnly (F.told files.old) (F.told files.new) }
+{
+    let evidence = open_evidence(alloc, files, certificate)?;
+    tell_evidence(alloc, look, game, evidence, name)
+}
+
 /// The picture of a node of the certificate under a name for a game on lines or a switching game.
+/// It is read as one of plain nodes, and once more in either form where it doesn't begin as that.
 fn tell_node_of<F: Files>(
     alloc: Global,
     look: Look,
@@ -76,8 +100,15 @@ fn tell_node_of<F: Files>(
         (F.told files.old).faults (F.told files.new).faults result }
     ensures kept { ReadsOnly (F.told files.old) (F.told files.new) }
 {
-    let cert = open_certificate(alloc, files, certificate)?;
-    Ok(tell_certificate(alloc, look, game, &cert, name)?)
+    match open_certificate(alloc, files, certificate) {
+        Ok(cert) => Ok(tell_certificate(alloc, look, game, &cert, name)?),
+        Err(halt) => {
+            if begins_otherwise(&halt) {
+                return tell_node_in(alloc, look, files, game, certificate, name);
+            }
+            Err(halt)
+        }
+    }
 }
 
 /// The picture of a claim of the certificate under a name for a connectivity game.
