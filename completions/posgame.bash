@@ -164,7 +164,7 @@ _posgame_draw() {
     COMPREPLY=()
     while ((at < COMP_CWORD)); do
         case ${COMP_WORDS[at]} in
-            --size | --blank) ((at += 1)) ;;
+            --size | --blank | --move) ((at += 1)) ;;
             -*) ;;
             *) ((place += 1)) ;;
         esac
@@ -173,7 +173,7 @@ _posgame_draw() {
     if ((at > COMP_CWORD)); then
         :
     elif [[ $current == -* ]]; then
-        _posgame_words '--book --no-numbers --no-lines --no-legend --size --blank' "$current"
+        _posgame_words '--book --no-numbers --no-lines --no-legend --size --blank --move' "$current"
     elif ((place == 0)); then
         _posgame_files game "$current"
     elif ((place == 1)); then

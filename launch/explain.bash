@@ -49,7 +49,7 @@ read_draw_words() {
         ((${#POSITIONALS[@]} == 2)) && COMMAND=book GAME=${POSITIONALS[0]} OTHER=${POSITIONALS[1]}
         return 0
     fi
-    split_words ' --size --blank ' ' --no-numbers --no-lines --no-legend ' "$@" || return 0
+    split_words ' --size --blank --move ' ' --no-numbers --no-lines --no-legend ' "$@" || return 0
     ((${#POSITIONALS[@]} >= 1 && ${#POSITIONALS[@]} <= 3)) || return 0
     COMMAND=draw GAME=${POSITIONALS[0]} OTHER=${POSITIONALS[1]-}
     local number='(0|[1-9][0-9]{0,8})' node=${POSITIONALS[2]-0}
@@ -341,7 +341,7 @@ ask_again() {
     [[ $STATUS == 3 ]] || is_rereadable "$file" || return
     case $COMMAND:$STATUS in
         draw:3 | book:3 | table:3) words=("$GAME") ;;
-        draw:4 | book:4) words=("$@") ;;
+        draw:4 | draw:10 | book:4) words=("$@") ;;
         moves:3) words=(moves --positions 1 -- "$GAME") ;;
         settle:3 | split:3 | join:3) words=(--positions 1 -- "$GAME" /dev/null) ;;
         split:4 | join:4) words=(join -- "$GAME" "$FOLDER" /dev/null) ;;

@@ -19,6 +19,7 @@ fn say_one(rt: &HostRuntime, name: &str) -> bool {
 fn say_unreadable(rt: &HostRuntime, answer: &Result<Asked<'_>, Error>) {
     let (game, certificate) = match answer {
         Ok(Asked::Picture(order)) => (order.game, order.certificate.unwrap_or(order.game)),
+        Ok(Asked::Recorded(order, _)) => (order.game, order.record),
         Ok(Asked::Book(order)) => (order.game, order.certificate),
         Err(_) => return,
     };
@@ -33,6 +34,7 @@ fn say_meaningless(rt: &HostRuntime, answer: Result<Asked<'_>, Error>) {
     let _ = match answer {
         Err(error) => error.print(rt),
         Ok(Asked::Picture(_)) => eprintln!(rt; "{NAME}: there is no such node"),
+        Ok(Asked::Recorded(..)) => eprintln!(rt; "{NAME}: there is no such move"),
         Ok(Asked::Book(_)) => eprintln!(rt; "{NAME}: there are no books of games of this kind"),
     };
 }

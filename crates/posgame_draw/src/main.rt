@@ -10,6 +10,7 @@ use pg_binding::{BookOrder, bind};
 use pg_drawing::draw;
 use pg_host::{HostConsole, HostFiles, guard_streams};
 use pg_messages::{DONE, NO_MEMORY, NO_WORDS};
+use pg_replaying::{RecordOrder, draw_record};
 use pg_scene::Look;
 use std::alloc::{AllocError, Global};
 use std::env;
@@ -63,6 +64,13 @@ fn draw_picture(rt: &HostRuntime, order: &PictureOrder<'_>) -> u8 {
     }
 }
 
+/// Draws a recorded game, and returns the status.
+fn draw_recorded(rt: &HostRuntime, order: RecordOrder<'_>, look: Look) -> u8 {
+    let mut files = HostFiles::new(rt);
+    let mut console = HostConsole::new(rt);
+    draw_record(rt.alloc(), order, look, &mut files, &mut console)
+}
+
 /// Prints a book, and returns the status.
 fn print_book(rt: &HostRuntime, order: BookOrder<'_>) -> u8 {
     let mut files = HostFiles::new(rt);
@@ -75,6 +83,7 @@ fn print_book(rt: &HostRuntime, order: BookOrder<'_>) -> u8 {
 fn run(rt: &HostRuntime, answer: &Result<Asked<'_>, Error>) -> u8 {
     match answer {
         Ok(Asked::Picture(order)) => draw_picture(rt, order),
+        Ok(Asked::Recorded(order, look)) => draw_recorded(rt, *order, *look),
         Ok(Asked::Book(order)) => print_book(rt, *order),
         Err(_) => draw_names(rt, &[], Look::whole()),
     }

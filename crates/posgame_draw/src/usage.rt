@@ -3,6 +3,7 @@ use clap::builder::ValueParser;
 use clap::{Arg, ArgAction, ArgMatches, Command, Error};
 use pg_binding::BookOrder;
 use pg_draw::MAX_BOARDS;
+use pg_replaying::RecordOrder;
 use pg_scene::{Legend, Look};
 use std::alloc::Global;
 
@@ -30,6 +31,15 @@ const SIZE: &str = "size";
 /// The name of the option for blank boards.
 const BLANK: &str = "blank";
 
+/// The name of the option for the moves after which a recorded game is drawn.
+const MOVE: &str = "move";
+
+/// How the names of records end.
+const RECORDED: &str = ".record";
+
+/// The most moves of a record.
+const MAX_MOVES: u32 = 10_000;
+
 /// The greatest width of a picture, in pixels.
 const MAX_SIZE: u32 = 10_000;
 
@@ -51,6 +61,8 @@ pub(crate) struct PictureOrder<'a> {
 pub(crate) enum Asked<'a> {
     /// A picture.
     Picture(PictureOrder<'a>),
+    /// A picture of a recorded game.
+    Recorded(RecordOrder<'a>, Look),
     /// A book.
     Book(BookOrder<'a>),
 }
@@ -87,7 +99,16 @@ fn with_looks<'a>(alloc: Global, command: Command<'a>) -> Result<Command<'a>, Er
         .conflicts_with(BOOK)?
         .conflicts_with("CERT")?
         .help("Draw N boards without marks and legends on a sheet");
+    let moves = Arg::new(alloc, MOVE)
+        .long(MOVE)
+        .value_name("K")
+        .value_parser(ValueParser::unsigned(0, u64::from(MAX_MOVES)))
+        .requires_arg("CERT")?
+        .conflicts_with(BOOK)?
+        .conflicts_with("NODE")?
+        .help("Draw the recorded game in CERT after K moves");
     let command = command
+        .arg(moves)?
         .arg(numbers)?
         .arg(lines)?
         .arg(legend)?
@@ -102,7 +123,7 @@ fn with_names<'a>(alloc: Global, command: Command<'a>) -> Result<Command<'a>, Er
         .required(true)
         .help("The file of a game: its board is drawn");
     let certificate = Arg::new(alloc, "CERT").help(
-        "The file of a certificate: it is checked, and a node of it is drawn",
+        "A certificate, which is checked, and of which a node is drawn; or a record, NAME.record",
     );
     let node = Arg::new(alloc, "NODE").help(
         "The node: K of the first claim, or C.K of claim C, from 0",
@@ -144,6 +165,21 @@ fn look_of(found: &ArgMatches<'_>) -> Look {
     }
 }
 
+/// Returns which recorded game is asked for, if one is: by the option, or by the name of its file.
+fn recorded_in<'a>(found: &ArgMatches<'a>) -> Option<RecordOrder<'a>> {
+    let record = found.get_str("CERT")?;
+    let moves = found.get_one::<u32>(MOVE);
+    let is_named = record.ends_with(RECORDED) && found.get_str("NODE").is_none();
+    if moves.is_none() && !is_named {
+        return None;
+    }
+    Some(RecordOrder {
+        game: found.get_str("GAME").unwrap_or(""),
+        record,
+        moves,
+    })
+}
+
 /// Returns what the words ask for; or what `clap` has to say of them: the help or the version that
 /// they ask for, or what is wrong with them.
 pub(crate) fn read_words<'a>(alloc: Global, words: &'a [String]) -> Result<Asked<'a>, Error> {
@@ -155,6 +191,9 @@ pub(crate) fn read_words<'a>(alloc: Global, words: &'a [String]) -> Result<Asked
             game,
             certificate: certificate.unwrap_or(""),
         }));
+    }
+    if let Some(order) = recorded_in(&found) {
+        return Ok(Asked::Recorded(order, look_of(&found)));
     }
     Ok(Asked::Picture(PictureOrder {
         game,
