@@ -16,7 +16,7 @@ import kit
 ROW = re.compile(r"(.*?): ?(.*?)(?: ?!(\d))?$")
 BYTES = 2_000_000
 SPACE = "{http://www.w3.org/2000/svg}"
-TAGS = {"title", "style", "rect", "circle", "line", "path", "text"}
+TAGS = {"title", "style", "rect", "circle", "line", "path", "text", "g"}
 # Attributes that are places across, and down.
 ENDS = {"x": 0, "cx": 0, "x1": 0, "x2": 0, "y": 1, "cy": 1, "y1": 1, "y2": 1}
 LARGE = ["lines.game", "ring.game", "lines.game lines.cert", "ring.game lines.cert", "graph.game",

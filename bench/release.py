@@ -216,10 +216,11 @@ def manual(_: pathlib.Path) -> list[str]:
         "calls of posgame.1", [it for it in synopsis("posgame.1") if it[7] == " "], usage
     )
     drawing = re.findall(r"^    (posgame-draw .*)$", text_of("docs/FORMATS.md"), re.MULTILINE)
-    problems += [] if len(drawing) == 5 else ["docs/FORMATS.md shows other calls of posgame-draw"]
+    problems += [] if len(drawing) == 6 else ["docs/FORMATS.md shows other calls of posgame-draw"]
     problems += differs(
         "calls of posgame-draw.1", synopsis("posgame-draw.1"),
-        ["posgame-draw GAME [CERT [NODE]]", "posgame-draw --book GAME CERT"],
+        ["posgame-draw [OPTIONS] GAME [CERT [NODE]]",
+         "posgame-draw [OPTIONS] GAME RECORD [--move K]", "posgame-draw --book GAME CERT"],
     )
     called = r"^    (posgame-settle .*(?:\n {8,}\[.*)*)$"
     found = re.findall(called, text_of("docs/FORMATS.md"), re.MULTILINE)
@@ -277,6 +278,10 @@ COMPLETIONS = (
     ("posgame-draw tippy-c", "tippy-corner.game"),
     ("posgame-draw wheel.game tippy-by", "tippy-by-its-corner.cert"),
     ("posgame-draw --b", "--book"),
+    ("posgame-draw --no-l", "--no-legend --no-lines"),
+    ("posgame-draw --size ", ""),
+    ("posgame-draw --size 300 tippy-c", "tippy-corner.game"),
+    ("posgame-draw --no-lines wheel.game tippy-by", "tippy-by-its-corner.cert"),
     ("posgame-draw --book tippy-c", "tippy-corner.game"),
     ("posgame-draw --book wheel.game tippy-by", "tippy-by-its-corner.cert"),
     ("posgame-settle tippy-c", "tippy-corner.game"),

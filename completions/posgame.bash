@@ -160,19 +160,25 @@ _posgame_join() {
 }
 
 _posgame_draw() {
-    local current=${COMP_WORDS[COMP_CWORD]} first=1
+    local current=${COMP_WORDS[COMP_CWORD]} place=0 at=1
     COMPREPLY=()
-    [ "${COMP_WORDS[1]}" = --book ] && ((COMP_CWORD > 1)) && first=2
-    case $((COMP_CWORD - first)) in
-        0)
-            if [[ $current == -* ]]; then
-                _posgame_words --book "$current"
-            else
-                _posgame_files game "$current"
-            fi
-            ;;
-        1) _posgame_files cert "$current" ;;
-    esac
+    while ((at < COMP_CWORD)); do
+        case ${COMP_WORDS[at]} in
+            --size | --blank | --move) ((at += 1)) ;;
+            -*) ;;
+            *) ((place += 1)) ;;
+        esac
+        ((at += 1))
+    done
+    if ((at > COMP_CWORD)); then
+        :
+    elif [[ $current == -* ]]; then
+        _posgame_words '--book --no-numbers --no-lines --no-legend --size --blank --move' "$current"
+    elif ((place == 0)); then
+        _posgame_files game "$current"
+    elif ((place == 1)); then
+        _posgame_files cert "$current"
+    fi
 }
 
 # The words of posgame-play are those of a command of posgame without its name.

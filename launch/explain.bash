@@ -40,8 +40,8 @@ split_words() {
     done
 }
 
-# Sets what `read_words` sets, for posgame-draw, whose words are names and perhaps a node, or two
-# names with --book.
+# Sets what `read_words` sets, for posgame-draw, whose words are names, perhaps a node, and options;
+# or two names with --book.
 read_draw_words() {
     COMMAND='' FAMILY='' GAME='' FOLDER='' OTHER=''
     if [[ " $* " == *' --book '* ]]; then
@@ -49,10 +49,11 @@ read_draw_words() {
         ((${#POSITIONALS[@]} == 2)) && COMMAND=book GAME=${POSITIONALS[0]} OTHER=${POSITIONALS[1]}
         return 0
     fi
-    (($# >= 1 && $# <= 3)) || return 0
-    COMMAND=draw GAME=$1 OTHER=${2-}
-    local number='(0|[1-9][0-9]{0,8})'
-    (($# < 3)) || [[ $3 =~ ^(${number}[.])?$number$ ]] || COMMAND=''
+    split_words ' --size --blank --move ' ' --no-numbers --no-lines --no-legend ' "$@" || return 0
+    ((${#POSITIONALS[@]} >= 1 && ${#POSITIONALS[@]} <= 3)) || return 0
+    COMMAND=draw GAME=${POSITIONALS[0]} OTHER=${POSITIONALS[1]-}
+    local number='(0|[1-9][0-9]{0,8})' node=${POSITIONALS[2]-0}
+    [[ $node =~ ^(${number}[.])?$number$ ]] || COMMAND=''
 }
 
 # Sets what `read_words` sets, for posgame-settle, whose words are two names and options, or else
@@ -344,7 +345,7 @@ ask_again() {
     [[ $STATUS == 3 ]] || is_rereadable "$file" || return
     case $COMMAND:$STATUS in
         draw:3 | book:3 | table:3 | duel:3) words=("$GAME") ;;
-        draw:4 | book:4 | duel:4) words=("$@") ;;
+        draw:4 | draw:10 | book:4 | duel:4) words=("$@") ;;
         moves:3) words=(moves --positions 1 -- "$GAME") ;;
         settle:3 | split:3 | join:3) words=(--positions 1 -- "$GAME" /dev/null) ;;
         split:4 | join:4) words=(join -- "$GAME" "$FOLDER" /dev/null) ;;
@@ -377,7 +378,7 @@ explain_fault() {
     local file=$OTHER place line=0
     local in_file='(game|certificate|record|plan) ([GCFP][0-9]+) line ([0-9]+)'
     local in_claim='rejected ([JISV][0-9]+) claim ([0-9]+)( node ([0-9]+))?'
-    local drawn='<title>claim [xy, a-z]*(: node ([0-9]+))?: rejected ([JS][0-9]+)</title>'
+    local drawn='<title>(Position ([0-9]+): rejected|Claim rejected:) ([JS][0-9]+)</title>'
     [[ $FOLDER ]] && file=$FOLDER/plan
     ((STATUS == 3)) && file=$GAME
     if ! ask_again "$@"; then

@@ -284,13 +284,12 @@ class Game:
         """Returns the game as SVG, or a node of a certificate, by `posgame-draw`.
 
         `node` is "K" or "C.K", node K of claim C; without it the root of the first claim is drawn.
-        Returns none for games on vectors and certificates with images, which are not drawn, and
-        if `posgame-draw` is not found. A certificate that is not valid is drawn at its first error.
+        Returns none for games on vectors, which are not drawn, and if `posgame-draw` is not found.
+        A certificate that is not valid is drawn at its first error.
         """
         files = {"GAME": self.text, **({"CERT": certificate} if certificate is not None else {})}
         words = list(files) + ([node] if node is not None else [])
-        has_images = (certificate or "").startswith("posgame-cert 3\n")
-        if has_images or _header(self.text) == "posgame-vectors" or not is_there("posgame-draw"):
+        if _header(self.text) == "posgame-vectors" or not is_there("posgame-draw"):
             return None
         done = run("posgame-draw", words, {name: bytes_of(text) for name, text in files.items()})
         return done.text if done.text.startswith("<") else answer_of(done, []).text

@@ -372,11 +372,11 @@ class Pictures(unittest.TestCase):
         if not is_there("posgame-draw"):
             self.skipTest("posgame-draw is not found")
         solution = Game.from_lines(FANO).solve()
-        for picture in (solution.game._repr_svg_(), solution._repr_svg_()):
+        folded = Game.from_grid(3, 3, lines=ROWS).solve(images=True)
+        for picture in (solution.game._repr_svg_(), solution._repr_svg_(), folded._repr_svg_()):
             root = xml.dom.minidom.parseString(str(picture)).documentElement
             self.assertEqual(root.tagName, "svg")
         self.assertIsNone(Game.read(EXAMPLES / "six-vectors.game")._repr_svg_())
-        self.assertIsNone(Game.from_grid(3, 3, lines=ROWS).solve(images=True)._repr_svg_())
 
     def test_errors(self) -> None:
         if not is_there("posgame-draw"):

@@ -14,7 +14,7 @@ use Rattle.pg_book_parts.specs.declared.chapter.Chapter.{Chapter}
 use Rattle.pg_book_parts.specs.declared.layout.Layout.{Layout}
 use Rattle.pg_book.specs.Boards.{board_of}
 use Rattle.pg_book.specs.Books.{page_pieces, section_pieces}
-use Rattle.pg_book.specs.Scenes.{kept, page_scene, scene_by}
+use Rattle.pg_book.specs.Scenes.{kept, page_look, page_scene, scene_by}
 use Rattle.pg_book.specs.Showing.{IsShownOf}
 use Rattle.pg_book.specs.declared.scenes.Shown.{Shown}
 use Rattle.pg_book.proofs.Rows.{board-same}
@@ -38,9 +38,9 @@ nodes-same c i k whole claim node part one other =
 -- the scene of a node gives what its page shows
 pub shows : (g : Game) (c : Cert) (i k : ℕ) (scene : Scene) (found : Option Shown)
     (shown : Shown)
-    → IsSceneOfNode g c i k None scene
+    → IsSceneOfNode page_look g c i k None scene
     → found ≡ Some shown
-    → shown.picture ≡ picture_of (scene_by scene.board (flat_map kept scene.items))
+    → shown.picture ≡ picture_of page_look (scene_by scene.board (flat_map kept scene.items))
     → shown.legend ≡ scene.legend
     → (claim : Claim) (part : Node)
     → AreNamed c i k claim part
@@ -48,16 +48,17 @@ pub shows : (g : Game) (c : Cert) (i k : ℕ) (scene : Scene) (found : Option Sh
 shows g c i k scene found shown is same picture legend claim part named =
     let one = claims-same c i k is.whole claim is.node part is.named named in
     let other = nodes-same c i k is.whole claim is.node part is.named named in
-    let at : IsSceneOf g claim k part None scene =
-    subst (λ (n : Node). IsSceneOf g claim k n None scene) other
-    (subst (λ (w : Claim). IsSceneOf g w k is.node None scene) one is.shown) in
+    let at : IsSceneOf page_look g claim k part None scene =
+    subst (λ (n : Node). IsSceneOf page_look g claim k n None scene) other
+    (subst (λ (w : Claim). IsSceneOf page_look g w k is.node None scene) one is.shown) in
     record {
       shown = shown;
       is = same;
       picture = picture
-          ∙ ap (λ b. picture_of (scene_by b (flat_map kept scene.items)))
+          ∙ ap (λ b. picture_of page_look (scene_by b (flat_map kept scene.items)))
           (board-same g.field scene.board at.board)
-          ∙ ap (λ items. picture_of (scene_by (board_of g.field) (flat_map kept items))) at.items;
+          ∙ ap (λ items. picture_of page_look (scene_by (board_of g.field) (flat_map kept items)))
+          at.items;
       legend = legend ∙ at.legend;
     }
 
@@ -88,4 +89,4 @@ section-shown g layout claim chapter page node found shown is at =
     ap (λ (s : Shown). page_pieces layout claim chapter page node.body s.picture s.legend) same
     ∙ ap (λ p. page_pieces layout claim chapter page node.body p is.shown.legend) is.picture
     ∙ ap (λ lines. page_pieces layout claim chapter page node.body
-    (picture_of (page_scene g claim.side node)) lines) is.legend
+    (picture_of page_look (page_scene g claim.side node)) lines) is.legend

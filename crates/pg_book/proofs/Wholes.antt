@@ -25,7 +25,7 @@ use Rattle.pg_page.specs.declared.piece.Piece.TheVariants as pieces
 use Rattle.pg_page.specs.declared.tag.LoneTag.TheVariants as lone
 use Rattle.pg_page.specs.declared.tag.Tag.TheVariants as tags
 use Rattle.pg_picture.specs.declared.picture.Picture.{Picture}
-use Rattle.pg_scene.specs.Words.{node_legend}
+use Rattle.pg_scene.specs.Legends.{body_lines}
 use Rattle.pg_book.specs.Books.{board_pieces, book_by, book_pieces, chapter_of, charset_pieces}
 use Rattle.pg_book.specs.Books.{claim_by, claims_pieces, detail_pieces, entries_pieces, entry_by}
 use Rattle.pg_book.specs.Books.{entry_pieces, entry_words, form_pieces, head_pieces, header_pieces}
@@ -46,7 +46,7 @@ use Rattle.pg_book_parts.specs.Reading.{section_ids, targets}
 use Rattle.pg_book_parts.specs.Pictures.{over_pieces, shape_pieces}
 use Rattle.pg_book.specs.Origins.{origin_lead, origin_of, origin_pieces}
 use Rattle.pg_book.specs.declared.origins.Origin.{Origin}
-use Rattle.pg_book.specs.Scenes.{blank_picture, page_scene}
+use Rattle.pg_book.specs.Scenes.{blank_picture, page_look, page_scene}
 use Rattle.pg_book.specs.Boards.{layout_of}
 use Rattle.pg_book.specs.Sentences.{body_pieces, list_pieces, move_pieces, point_lead}
 use Rattle.pg_book.specs.Sentences.{reply_pieces, step_by, step_words, steps_list, steps_pieces}
@@ -287,8 +287,8 @@ module _ (ok : Bytes → Type 0) (chapter : Chapter)
       (section_by g layout claim chapter (i + 1) found)
   node-part g layout claim i None some = absurd (some refl)
   node-part g layout claim i (Some node) some = page-part layout claim (i + 1) node.body
-      (picture_of (page_scene g claim.side node))
-      (node_legend g (position_of node) claim.side node.body)
+      (picture_of page_look (page_scene g claim.side node))
+      (body_lines g (position_of node) claim.side node.body)
 
   -- the sections of the claim, by whose nodes the pages are numbered
   sections-part : (g : Game) (layout : Layout) (claim : Claim)

@@ -26,15 +26,15 @@ use Rattle.pg_page.specs.declared.tag.LoneTag.TheVariants as lone
 use Rattle.pg_page.specs.declared.tag.Tag.TheVariants as tags
 unfoldable use Rattle.pg_picture.specs.Svg.{picture_text}
 use Rattle.pg_picture.specs.declared.picture.Picture.{Picture}
-use Rattle.pg_scene.specs.Words.{node_legend}
+use Rattle.pg_scene.specs.Legends.{body_lines}
+use Rattle.pg_scene.specs.Words.{side_name}
 use Rattle.pg_book_parts.specs.Chapters.{link_pieces, number_text, page_id, shown}
 use Rattle.pg_book_parts.specs.Elements.{element, labelled, paragraph}
 use Rattle.pg_book_parts.specs.Pictures.{over_pieces, shape_pieces, view_text}
 use Rattle.pg_book.specs.Origins.{origin_of, origin_pieces}
-use Rattle.pg_book.specs.Scenes.{blank_picture, page_scene}
+use Rattle.pg_book.specs.Scenes.{blank_picture, page_look, page_scene}
 use Rattle.pg_book.specs.Boards.{layout_of}
 use Rattle.pg_book.specs.Sentences.{body_pieces}
-use Rattle.pg_book_parts.specs.Words.{side_name}
 use Rattle.pg_book_parts.specs.declared.chapter.Chapter.{Chapter}
 use Rattle.pg_book_parts.specs.declared.layout.Layout.{Layout}
 use Rattle.pg_book.specs.declared.front.TheConstants.{LEGEND, LEGEND_LINKS, LEGEND_MARKS}
@@ -122,8 +122,8 @@ page_pieces layout claim chapter page body picture lines = element tags.Section
 abbrev pub section_pieces : Game → Layout → Claim → Chapter → ℕ → Node → List Piece
 section_pieces g layout claim chapter page node =
     page_pieces layout claim chapter page node.body
-    (picture_of (page_scene g claim.side node))
-    (node_legend g (position_of node) claim.side node.body)
+    (picture_of page_look (page_scene g claim.side node))
+    (body_lines g (position_of node) claim.side node.body)
 
 -- the section of a node, if there is one
 abbrev pub section_by : Game → Layout → Claim → Chapter → ℕ → Option Node → List Piece

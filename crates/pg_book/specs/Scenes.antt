@@ -1,5 +1,5 @@
 -- What is to be seen on a page: the board of a node, with what its body names.
-use Rattle.std.specs.Prelude.{ℕ, List, [], ◌∷◌, ◌++◌, Some, None}
+use Rattle.std.specs.Prelude.{ℕ, true, false, List, [], ◌∷◌, ◌++◌, Some, None}
 use Rattle.std.specs.List.{flat_map}
 use Rattle.std.specs.FinSet.{empty}
 use Rattle.pg_base.specs.declared.side.Side.{Side}
@@ -14,14 +14,20 @@ use Rattle.pg_scene.specs.Items.{body_items, fault_items, line_items, point_item
 use Rattle.pg_scene.specs.declared.board.Board.{Board}
 use Rattle.pg_scene.specs.declared.item.Item.{Item}
 use Rattle.pg_scene.specs.declared.item.Item.TheVariants as items
+use Rattle.pg_scene.specs.declared.look.Legend.TheVariants.{OfBody}
+use Rattle.pg_scene.specs.declared.look.Look.{Look}
 use Rattle.pg_scene.specs.declared.scene.Scene.{Scene}
 use Rattle.pg_book.specs.Boards.{board_of}
+
+-- what a page shows of a node: no lines, and of the legend what the body says
+abbrev pub page_look : Look
+page_look =
+    record { numbers = true; lines = false; legend = OfBody; size = None; blank = None }
 
 -- ---- items
 
 -- the items of a node's scene that its page shows: points with marks, pairs, weights, steps and the
--- members of sets. The board without marks is behind them all. Lines hide what is under them, and
--- moves and replies are links.
+-- members of sets. The board without marks is behind them all, and moves and replies are links.
 abbrev pub kept : Item → List Item
 kept (items.Point v (Some side)) = items.Point v (Some side) ∷ []
 kept (items.Pair v w number) = items.Pair v w number ∷ []
@@ -33,7 +39,8 @@ kept _ = []
 
 -- the items of a node
 abbrev pub node_items : Game → Side → Node → List Item
-node_items g side node = point_items (point_count g) (position_of node) ++ (line_items (lines_of g)
+node_items g side node = point_items (point_count g) (position_of node)
+    ++ (line_items page_look.lines (lines_of g)
     ++ (body_items g (position_of node) side node.body ++ fault_items None))
 
 -- the points of a game without marks
@@ -53,4 +60,4 @@ page_scene g side node = scene_by (board_of g.field) (flat_map kept (node_items 
 
 -- the picture of a game's board without marks
 abbrev pub blank_picture : Game → Picture
-blank_picture g = picture_of (scene_by (board_of g.field) (blank_items g))
+blank_picture g = picture_of page_look (scene_by (board_of g.field) (blank_items g))

@@ -13,9 +13,10 @@ use Rattle.pg_cert.specs.declared.reply.Reply.{Reply}
 use Rattle.pg_page.specs.declared.piece.Piece.{Piece}
 use Rattle.pg_page.specs.declared.piece.Piece.TheVariants as pieces
 use Rattle.pg_page.specs.declared.tag.Tag.TheVariants as tags
+use Rattle.pg_scene.specs.Words.{side_name}
 use Rattle.pg_book_parts.specs.Chapters.{link_pieces}
 use Rattle.pg_book_parts.specs.Elements.{element, labelled, paragraph}
-use Rattle.pg_book_parts.specs.Words.{act_words, point_words, side_name, side_words}
+use Rattle.pg_book_parts.specs.Words.{act_words, point_words, side_words}
 use Rattle.pg_book_parts.specs.declared.chapter.Chapter.{Chapter}
 use Rattle.pg_book_parts.specs.declared.layout.Layout.{Layout}
 use Rattle.pg_book.specs.declared.sentences.TheConstants.{CUTS, OVER, PAIRED, REPLIES, THREATS}

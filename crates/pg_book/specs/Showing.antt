@@ -5,14 +5,14 @@ use Rattle.pg_cert.specs.Node.{position_of}
 use Rattle.pg_cert.specs.declared.node.Node.{Node}
 use Rattle.pg_draw.specs.Pictures.{picture_of}
 use Rattle.pg_game.specs.declared.game.Game.{Game}
-use Rattle.pg_scene.specs.Words.{node_legend}
-use Rattle.pg_book.specs.Scenes.{page_scene}
+use Rattle.pg_scene.specs.Legends.{body_lines}
+use Rattle.pg_book.specs.Scenes.{page_look, page_scene}
 use Rattle.pg_book.specs.declared.scenes.Shown.{Shown}
 
--- the picture of a node's page, and the lines of the node's legend
+-- the picture of a node's page, and what its body names
 pub record IsShownOf (g : Game) (side : Side) (node : Node) (found : Option Shown)
     : Type 0 where
   pub shown : Shown
   pub is : found ≡ Some shown
-  pub picture : shown.picture ≡ picture_of (page_scene g side node)
-  pub legend : shown.legend ≡ node_legend g (position_of node) side node.body
+  pub picture : shown.picture ≡ picture_of page_look (page_scene g side node)
+  pub legend : shown.legend ≡ body_lines g (position_of node) side node.body

@@ -10,10 +10,11 @@ ghost use Rattle.pg_book.specs.Books.{legend_pieces, meta_pieces, metas_pieces};
 
 use crate::sheet::push_sheet;
 use pg_base::{Goal, Kind, Memory};
-use pg_book_parts::{Chapter, push_link, push_paragraph, push_plain, side_name};
+use pg_book_parts::{Chapter, push_link, push_paragraph, push_plain};
 use pg_cert::Claim;
 use pg_page::{Attributes, LoneTag, Name, Piece, Tag, push_close, push_open, push_words};
 use pg_picture::{Picture, Text};
+use pg_scene::side_name;
 use std::alloc::{AllocError, Global};
 use std::fmt::Write;
 
@@ -40,7 +41,8 @@ pub(crate) const LEGEND_PAIRS: &str = "A stroke joins the points of a pair: choo
 
 /// What numbers in pictures mean.
 pub(crate) const LEGEND_STEPS: &str = "A small number in a picture is that of a point or an edge, \
-    a number in a ring that of a step, and a bold one a weight.";
+    and a bold one a weight. A number in a ring is that of a step: the rings of attacks are whole, \
+    those of forced replies dashed.";
 
 /// What a reader has to know of the page itself.
 pub(crate) const NOTHING_RUNS: &str = "Page 1 is where the game begins. Nothing on this page runs: \

@@ -8,7 +8,7 @@ ghost use Rattle.pg_draw.specs.Shapes.{courses_of};
 ghost use Rattle.pg_scene.specs.Limits.{IsBoard};
 ghost use Rattle.pg_scene.specs.declared.item.Item.TheVariants.{Point, Weight};
 ghost use Rattle.pg_scene.specs.Scenes.{AreNamed};
-ghost use Rattle.pg_book.specs.Scenes.{blank_items, blank_picture, kept, scene_by};
+ghost use Rattle.pg_book.specs.Scenes.{blank_items, blank_picture, kept, page_look, scene_by};
 ghost use Rattle.pg_book.specs.Boards.{layout_of};
 ghost use Rattle.pg_book.specs.Showing.{IsShownOf};
 
@@ -20,7 +20,7 @@ use pg_game::{Game, Position};
 use pg_picture::Picture;
 use pg_places::{Courses, Plan};
 use pg_scene::{
-    Board, Item, Items, Scene, Texts, put_points, scene_of_game, scene_of_node,
+    Board, Item, Items, Legend, Look, Scene, Texts, put_points, scene_of_game, scene_of_node,
     scenes_can_be_laid_out, text_of,
 };
 use std::alloc::Global;
@@ -30,8 +30,22 @@ use std::alloc::Global;
 pub(crate) struct Shown {
     /// Its picture.
     pub picture: Picture,
-    /// What else there is to be said, a line each.
+    /// What its body names, a line each.
     pub legend: Texts,
+}
+
+/// What is shown of a node: no lines, which would hide what is under them, and of the legend what
+/// the body says.
+fn page_look() -> Look
+    ensures { result ≡ page_look }
+{
+    Look {
+        numbers: true,
+        lines: false,
+        legend: Legend::OfBody,
+        size: None,
+        blank: None,
+    }
 }
 
 /// How the edges of a board run.
@@ -61,7 +75,7 @@ pub(crate) fn layout_of(alloc: Global, g: &Game) -> Result<Layout, Memory>
     ensures { IfOk result (λ layout. layout ≡ layout_of g.now) }
 {
     scenes_can_be_laid_out();
-    let Scene { board, .. } = scene_of_game(alloc, g)?;
+    let Scene { board, .. } = scene_of_game(alloc, g, page_look())?;
     let courses = courses_of(alloc, &board)?;
     Ok(Layout {
         kind: g.kind,
@@ -73,7 +87,7 @@ pub(crate) fn layout_of(alloc: Global, g: &Game) -> Result<Layout, Memory>
 /// The picture of a board on which these items are to be seen.
 fn draw_items(alloc: Global, board: Board, items: Items) -> Result<Picture, Memory>
     requires { IsBoard board }
-    ensures { IfOk result (λ picture. picture ≡ picture_of (scene_by board items)) }
+    ensures { IfOk result (λ picture. picture ≡ picture_of page_look (scene_by board items)) }
 {
     let scene = Scene {
         title: text_of(alloc, "")?,
@@ -81,7 +95,7 @@ fn draw_items(alloc: Global, board: Board, items: Items) -> Result<Picture, Memo
         items,
         legend: Texts::from_vec(Vec::new(alloc)),
     };
-    draw(alloc, &scene)
+    draw(alloc, &scene, page_look())
 }
 
 /// The points of a game without marks.
@@ -104,7 +118,7 @@ pub(crate) fn draw_board(alloc: Global, g: &Game) -> Result<Picture, Memory>
     ensures { IfOk result (λ picture. picture ≡ blank_picture g.now) }
 {
     scenes_can_be_laid_out();
-    let Scene { board, .. } = scene_of_game(alloc, g)?;
+    let Scene { board, .. } = scene_of_game(alloc, g, page_look())?;
     let items = blank_items(alloc, g)?;
     draw_items(alloc, board, items)
 }
@@ -195,7 +209,8 @@ fn kept_items(alloc: Global, items: &[Item]) -> Result<Vec<Item>, Memory>
 fn show(alloc: Global, scene: Scene) -> Result<Shown, Memory>
     requires { IsBoard scene.board }
     ensures { IfOk result (λ shown.
-        (shown.picture ≡ picture_of (scene_by scene.board (flat_map kept scene.items)))
+        (shown.picture
+        ≡ picture_of page_look (scene_by scene.board (flat_map kept scene.items)))
         × (shown.legend ≡ scene.legend)) }
 {
     let Scene {
@@ -223,7 +238,7 @@ pub(crate) fn show_node(
         → IsShownOf g.now claim.side part found) }
 {
     scenes_can_be_laid_out();
-    match scene_of_node(alloc, g, cert, page.chapter.claim, node, None)? {
+    match scene_of_node(alloc, g, cert, page.chapter.claim, node, None, page_look())? {
         Some(scene) => Ok(Some(show(alloc, scene)?)),
         None => Ok(None),
     }

@@ -30,11 +30,12 @@ background-size:100% auto;border-radius:.3rem;print-color-adjust:exact;--link:#0
 rect,circle{stroke:#333;stroke-width:1}
 rect.reply{rx:5px}
 line{fill:none;stroke:#333;stroke-width:2}
-text{font:14px sans-serif;text-anchor:middle;dominant-baseline:central;fill:#111}
+text{font:11px sans-serif;text-anchor:middle;dominant-baseline:central;fill:#111}
 .free,.vertex{fill:#fff}
 .of-x{fill:#7fa8d8}
 .of-y{fill:#f8cfae}
-.terminal{fill:#888}
+.terminal{fill:#bbb}
+line.terminal{stroke:#bbb;stroke-width:8}
 .edge{stroke:#999}
 .edge-of-x{stroke:#2f5f98;stroke-width:6}
 .edge-of-y{stroke:#e8a878;stroke-width:3;stroke-dasharray:2 4}
@@ -50,11 +51,14 @@ line.first,circle.first{fill:none;stroke:#0060c0;stroke-width:4}
 .second{fill:none;stroke:#c06000;stroke-width:4;stroke-dasharray:8 4}
 .extra{stroke:#606060;stroke-dasharray:2 3}
 .step{fill:none;stroke:#8000a0;stroke-width:3}
+.answer{fill:none;stroke:#a06000;stroke-width:2;stroke-dasharray:3 2}
+.plate{fill:#fff;stroke:none}
 .reply{fill:transparent;stroke:var(--link);stroke-width:3;stroke-dasharray:4 3}
 a:visited .reply{stroke:var(--seen)}
 a:hover .reply{fill:#0645ad33}
 .mark{font-size:18px;font-weight:bold}
-.weight{font-weight:bold}
+.weight{font-size:13px;font-weight:bold}
+.corner{fill:#666;text-anchor:start}
 .choice input{appearance:none;width:100%;height:100%;margin:0;cursor:pointer}
 .choice input:hover,.choice input:focus-visible{outline:3px solid var(--link);outline-offset:-4px}
 .chosen{display:none;pointer-events:none}

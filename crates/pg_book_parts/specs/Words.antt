@@ -3,24 +3,11 @@ use Rattle.std.specs.Prelude.{ℕ, ◌+◌, ◌/◌, ◌%◌, Bool, ◌&&◌, �
 use Rattle.std.specs.Prelude.{[], ◌++◌, codes, decimal, Option, Some, None, slice_get}
 use Rattle.pg_base.specs.Texts.{Bytes}
 use Rattle.pg_base.specs.declared.kind.Kind.{Kind}
-use Rattle.pg_base.specs.declared.kind.Kind.TheVariants.{AvoiderEnforcer, MakerBreaker, MakerMaker}
-use Rattle.pg_base.specs.declared.kind.Kind.TheVariants.{Switching}
 use Rattle.pg_base.specs.declared.side.Side.{Side}
-use Rattle.pg_base.specs.declared.side.Side.TheVariants.{X, Y}
 use Rattle.pg_scene.specs.declared.board.Board.{Board}
 use Rattle.pg_scene.specs.declared.board.Board.TheVariants.{Graph, Grid, Ring}
+use Rattle.pg_scene.specs.Words.{side_name}
 use Rattle.pg_book_parts.specs.declared.layout.Layout.{Layout}
-
--- the name of a side in games of a kind
-abbrev pub side_name : Kind → Side → Bytes
-side_name MakerBreaker X = codes "Maker"
-side_name MakerBreaker Y = codes "Breaker"
-side_name MakerMaker X = codes "X"
-side_name MakerMaker Y = codes "Y"
-side_name AvoiderEnforcer X = codes "Avoider"
-side_name AvoiderEnforcer Y = codes "Enforcer"
-side_name Switching X = codes "Short"
-side_name Switching Y = codes "Cut"
 
 -- whether the point is the cell in the middle: the rows and the columns are odd in number, and as
 -- many are before the cell as after it

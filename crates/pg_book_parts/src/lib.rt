@@ -14,4 +14,4 @@ pub use elements::{push_labelled, push_paragraph, push_plain};
 pub use layout::Layout;
 pub use over::{EDGE_RADIUS, MARK_RADIUS, RING_RADIUS, SQUARE_HALF, SQUARE_SIDE, push_over};
 pub use shapes::{VIEW_TOP, push_shapes, view_of};
-pub use words::{act_words, put_point, side_name, side_words};
+pub use words::{act_words, put_point, side_words};

@@ -2,30 +2,14 @@
 ghost use Rattle.std.specs.Prelude.{◌≡◌, ◌≤◌, ◌/◌, ◌++◌, IfOk, OnOk, string_bytes, max, slice_get};
 ghost use Rattle.pg_book_parts.specs.Words.{act_words, cell_words, edge_words, ends_words};
 ghost use Rattle.pg_book_parts.specs.Words.{is_middle, middle_words};
-ghost use Rattle.pg_book_parts.specs.Words.{point_words, side_name, side_words};
+ghost use Rattle.pg_book_parts.specs.Words.{point_words, side_words};
 
 use crate::layout::Layout;
 use pg_base::{Kind, Memory, Side};
 use pg_picture::Text;
-use pg_scene::Board;
+use pg_scene::{Board, side_name};
 use std::alloc::{AllocError, Global};
 use std::fmt::Write;
-
-/// Returns the name of a side in games of a kind.
-pub fn side_name(kind: Kind, side: Side) -> &'static str
-    ensures { result.now ≡ side_name kind side }
-{
-    match (kind, side) {
-        (Kind::MakerBreaker, Side::X) => "Maker",
-        (Kind::MakerBreaker, Side::Y) => "Breaker",
-        (Kind::MakerMaker, Side::X) => "X",
-        (Kind::MakerMaker, Side::Y) => "Y",
-        (Kind::AvoiderEnforcer, Side::X) => "Avoider",
-        (Kind::AvoiderEnforcer, Side::Y) => "Enforcer",
-        (Kind::Switching, Side::X) => "Short",
-        (Kind::Switching, Side::Y) => "Cut",
-    }
-}
 
 /// The row of a cell, from 0.
 fn row_of(width: u32, point: u16) -> u32

@@ -4,13 +4,15 @@ use Rattle.std.proofs.Common.{inl, inr, arith, subst}
 use Rattle.std.specs.Prelude.{Option, Some, None, fold, max, nat_le, ◌==◌}
 use Rattle.pg_draw.proofs.Common.{div-lt_iff_lt-mul, mul_comm, cases_Bool, nat_tests, mod_below}
 use Rattle.pg_draw.proofs.Common.{Place, IsBoard, points_on, vertices_on, Board, Grid, Ring, Graph}
-use Rattle.pg_draw.proofs.Common.{Scene, farther, place_of_edge, at, column_of, columns_of, part_of}
+use Rattle.pg_draw.proofs.Common.{Look, Scene, farther, place_of_edge, at, column_of, columns_of}
+use Rattle.pg_draw.proofs.Common.{part_of}
 use Rattle.pg_draw.proofs.Common.{place_by, place_on_bridge, place_on_circle, place_on_grid}
 use Rattle.pg_draw.proofs.Common.{place_on_ring, radius_of, row_of, Course, HALF, MARGIN}
 use Rattle.pg_draw.proofs.Common.{MAX_ON_RING, ROW, TOP}
 use Rattle.pg_draw.specs.Laws.{IsInside, IsUpTo, vertex_place}
-use Rattle.pg_draw.specs.Pictures.{bridge_reach, circle_reach, far_corner, picture_of, reach_by}
-use Rattle.pg_draw.specs.Pictures.{reach_of, row_reach}
+use Rattle.pg_draw.specs.Pictures.{bridge_reach, circle_reach, far_corner, height_of, picture_of}
+use Rattle.pg_draw.specs.Pictures.{reach_by, reach_of, row_reach, width_of}
+use Rattle.pg_draw.specs.Sheets.{boards_of, columns_for, rows_for}
 use Rattle.pg_draw.specs.Shapes.{courses_of, place_of}
 use Rattle.pg_places.proofs.Circles.{part_fits, place_in}
 
@@ -187,24 +189,44 @@ vertex_up (Graph vertices ends terminals bridge) courses u fits lt =
 
 -- ---- pictures
 
-in_picture : (scene : Scene) (place : Place)
+-- one of several is no larger than all
+le_times : (w n : ℕ) → 1 ≤ n → w ≤ w * n
+le_times w zero some = absurd (omega arith)
+le_times w (suc k) some = omega arith
+
+some_boards : (blank : Option ℕ) → 1 ≤ boards_of blank
+some_boards None = omega arith
+some_boards (Some count) = omega arith
+
+some_rows : (boards : ℕ) → 1 ≤ boards → 1 ≤ rows_for boards
+some_rows boards some = omega (arith, some)
+
+in_picture : (look : Look) (scene : Scene) (place : Place)
     → IsUpTo (far_corner scene.board (courses_of scene.board)) place
-    → IsInside (picture_of scene) place
+    → IsInside (picture_of look scene) place
 unfolding picture_of
-in_picture scene place up =
+in_picture look scene place up =
     let across = up.0 in
     let down = up.1 in
-    (omega (arith, across), omega (arith, down))
+    let courses = courses_of scene.board in
+    let corner = far_corner scene.board courses in
+    let boards = boards_of look.blank in
+    let some = some_boards look.blank in
+    let wide = le_times (width_of scene corner.across) (columns_for boards) (omega (arith, some)) in
+    let high =
+    le_times (height_of scene corner.down) (rows_for boards) (some_rows boards some) in
+    (omega (arith, across, wide), omega (arith, down, high))
 
-pub point_in_picture : (scene : Scene) (v : ℕ)
+pub point_in_picture : (look : Look) (scene : Scene) (v : ℕ)
     → v < points_on scene.board
-    → IsInside (picture_of scene) (place_of scene.board (courses_of scene.board) v)
-point_in_picture scene v lt = in_picture scene (place_of scene.board (courses_of scene.board) v)
+    → IsInside (picture_of look scene) (place_of scene.board (courses_of scene.board) v)
+point_in_picture look scene v lt =
+    in_picture look scene (place_of scene.board (courses_of scene.board) v)
     (point_inside scene.board (courses_of scene.board) v lt)
 
-pub vertex_in_picture : (scene : Scene) (u : ℕ)
+pub vertex_in_picture : (look : Look) (scene : Scene) (u : ℕ)
     → IsBoard scene.board
     → u < vertices_on scene.board
-    → IsInside (picture_of scene) (vertex_place scene.board u)
-vertex_in_picture scene u fits lt = in_picture scene (vertex_place scene.board u)
+    → IsInside (picture_of look scene) (vertex_place scene.board u)
+vertex_in_picture look scene u fits lt = in_picture look scene (vertex_place scene.board u)
     (vertex_up scene.board (courses_of scene.board) u fits lt)

@@ -3,27 +3,29 @@ use Rattle.std.specs.Prelude.{◌≡◌, ℕ, ◌+◌, ◌≤◌, List, ◌∷�
 use Rattle.std.specs.List.{flat_map}
 use Rattle.pg_picture.specs.declared.paint.Paint.TheVariants as paints
 use Rattle.pg_draw.specs.Prelude.{Picture, Place, Shape, Words, Board, Grid, Ring, Graph, Item}
-use Rattle.pg_draw.specs.Prelude.{Scene, at, place_of_end, HALF, MARGIN, TOP}
+use Rattle.pg_draw.specs.Prelude.{Look, Scene, at, place_of_end, HALF, MARGIN, TOP}
 use Rattle.pg_draw.specs.Pictures.{far_corner, legend_shapes, picture_of}
 use Rattle.pg_draw.specs.Shapes.{courses_of, item_shapes, plan_of, vertices_shapes}
 use Rattle.pg_draw.specs.declared.measures.TheConstants.{HEADING_DOWN}
 
 -- the shapes of items on a scene's board
-abbrev pub shapes_on : Scene → List Item → List Shape
-shapes_on scene items = flat_map (item_shapes scene.board (courses_of scene.board)) items
+abbrev pub shapes_on : Look → Scene → List Item → List Shape
+shapes_on look scene items =
+    flat_map (item_shapes look.numbers scene.board (courses_of scene.board)) items
 
 -- what stands behind all items
-abbrev pub last_shapes : Scene → List Shape
-last_shapes scene = vertices_shapes scene.board
+abbrev pub last_shapes : Look → Scene → List Shape
+last_shapes look scene = vertices_shapes look.numbers scene.board
     ++ legend_shapes (far_corner scene.board (courses_of scene.board)).down scene.legend
 
 -- the item's shapes stand between those of the items before and after it, which stand between the
 -- heading and the rest
-abbrev pub IsDrawnBetween : Scene → List Item → Item → List Item → Type 0
-IsDrawnBetween scene before item after =
-    (picture_of scene).shapes ≡ Words (at MARGIN HEADING_DOWN) scene.title paints.Heading
-    ∷ shapes_on scene before ++ (item_shapes scene.board (courses_of scene.board) item
-    ++ (shapes_on scene after ++ last_shapes scene))
+abbrev pub IsDrawnBetween : Look → Scene → List Item → Item → List Item → Type 0
+IsDrawnBetween look scene before item after = (picture_of look scene).shapes
+    ≡ Words (at MARGIN HEADING_DOWN) scene.title paints.Heading
+    ∷ shapes_on look scene before
+    ++ (item_shapes look.numbers scene.board (courses_of scene.board) item
+    ++ (shapes_on look scene after ++ last_shapes look scene))
 
 -- a place is so far from the corner that half a cell is left in both directions
 abbrev pub IsUpTo : Place → Place → Type 0

@@ -1,4 +1,5 @@
 pub mod Prelude
 pub mod Shapes
+pub mod Sheets
 pub mod Pictures
 pub mod Laws

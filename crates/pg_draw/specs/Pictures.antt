@@ -1,12 +1,14 @@
 -- The picture of a scene.
-use Rattle.std.specs.Prelude.{ℕ, ◌+◌, ◌*◌, ◌/◌, max, min, nat_le, if◌then◌else◌, List, [], ◌∷◌}
+use Rattle.std.specs.Prelude.{ℕ, ◌+◌, ◌*◌, ◌/◌, max, min, nat_le, Bool, if◌then◌else◌, List, []}
+use Rattle.std.specs.Prelude.{◌∷◌}
 use Rattle.std.specs.Prelude.{◌++◌, length, Option, Some, None, fold}
 use Rattle.std.specs.List.{flat_map}
 use Rattle.pg_picture.specs.declared.paint.Paint.TheVariants as paints
 use Rattle.pg_draw.specs.Prelude.{Picture, Place, Shape, Words, Board, Grid, Ring, Graph, Scene}
 use Rattle.pg_draw.specs.Prelude.{farthest, at, columns_of, radius_of, Course, APART, CELL, HALF}
-use Rattle.pg_draw.specs.Prelude.{MARGIN, MAX_ON_RING, ROW, TOP, Plan}
+use Rattle.pg_draw.specs.Prelude.{Look, MARGIN, MAX_ON_RING, ROW, TOP, Plan}
 use Rattle.pg_draw.specs.Shapes.{courses_of, item_shapes, plan_of, vertices_shapes}
+use Rattle.pg_draw.specs.Sheets.{boards_of, columns_for, copy_places, rows_for}
 use Rattle.pg_draw.specs.declared.measures.TheConstants.{HEADING_DOWN}
 use Rattle.pg_draw.specs.declared.measures.TheConstants.{HEADING_LETTER, LEADING, LEGEND_LETTER}
 use Rattle.pg_draw.specs.declared.measures.TheConstants.{MAX_COUNTED_LETTERS}
@@ -66,24 +68,33 @@ legend_shapes down (line ∷ lines) =
 
 -- the heading, the shapes of each item in the order of the items, the vertices, and the legend
 -- below that place
-abbrev pub shapes_of : Scene → List Course → ℕ → List Shape
-shapes_of scene courses bottom = Words (at MARGIN HEADING_DOWN) scene.title paints.Heading
-    ∷ flat_map (item_shapes scene.board courses) scene.items
-    ++ (vertices_shapes scene.board ++ legend_shapes bottom scene.legend)
+abbrev pub shapes_of : Bool → Scene → List Course → ℕ → List Shape
+shapes_of numbers scene courses bottom = Words (at MARGIN HEADING_DOWN) scene.title paints.Heading
+    ∷ flat_map (item_shapes numbers scene.board courses) scene.items
+    ++ (vertices_shapes numbers scene.board ++ legend_shapes bottom scene.legend)
 
 -- how wide a picture is whose board reaches so far: no less than its title and its legend
 abbrev pub width_of : Scene → ℕ → ℕ
 width_of scene across =
     MARGIN + max (max across (text_width HEADING_LETTER scene.title)) (widest scene.legend)
 
--- the picture of a scene
-unfoldable pub picture_of : Scene → Picture
-picture_of scene =
+-- how high a picture is whose board reaches so far
+abbrev pub height_of : Scene → ℕ → ℕ
+height_of scene down = down + MARGIN + LEADING * length scene.legend
+
+-- the picture of a scene, or a sheet of several: with numbers or without them, and shown at a size
+unfoldable pub picture_of : Look → Scene → Picture
+picture_of look scene =
     let courses = courses_of scene.board in
     let corner = far_corner scene.board courses in
+    let width = width_of scene corner.across in
+    let height = height_of scene corner.down in
+    let boards = boards_of look.blank in
     record {
-      width = width_of scene corner.across;
-      height = corner.down + MARGIN + LEADING * length scene.legend;
+      width = width * columns_for boards;
+      height = height * rows_for boards;
+      size = look.size;
       title = scene.title;
-      shapes = shapes_of scene courses corner.down;
+      shapes = shapes_of look.numbers scene courses corner.down;
+      copies = copy_places width height boards;
     }

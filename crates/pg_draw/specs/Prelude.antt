@@ -8,9 +8,9 @@ pub use Rattle.pg_picture.specs.declared.shape.Shape.{Shape}
 pub use Rattle.pg_picture.specs.declared.shape.Shape.TheVariants.{Bow, Disc, Square, Stroke, Words}
 pub use Rattle.pg_places.specs.Courses.{bend_of, courses_behind, farther, farthest, have_same_ends}
 pub use Rattle.pg_places.specs.Courses.{middle_of, place_of_edge}
-pub use Rattle.pg_places.specs.Places.{IsPlan, IsWithin, at, column_of, columns_of, lower, part_of}
-pub use Rattle.pg_places.specs.Places.{place_by, place_of_end, place_on_ring, radius_of, row_of}
-pub use Rattle.pg_places.specs.Places.{upper_left, upper_right}
+pub use Rattle.pg_places.specs.Places.{IsPlan, IsWithin, at, column_of, columns_of, lower}
+pub use Rattle.pg_places.specs.Places.{lower_right, part_of, place_by, place_of_end}
+pub use Rattle.pg_places.specs.Places.{place_on_ring, radius_of, row_of, upper_left, upper_right}
 unfoldable pub use Rattle.pg_places.specs.Places.{place_on_bridge, place_on_circle, place_on_grid}
 pub use Rattle.pg_places.specs.declared.course.Course.{Course}
 pub use Rattle.pg_places.specs.declared.course.Course.TheVariants.{Around, Bent, Straight}
@@ -21,5 +21,6 @@ pub use Rattle.pg_scene.specs.Limits.{IsBoard, points_on, vertices_on}
 pub use Rattle.pg_scene.specs.declared.board.Board.{Board}
 pub use Rattle.pg_scene.specs.declared.board.Board.TheVariants.{Graph, Grid, Ring}
 pub use Rattle.pg_scene.specs.declared.item.Item.{Item}
+pub use Rattle.pg_scene.specs.declared.look.Look.{Look}
 pub use Rattle.pg_scene.specs.declared.scene.Scene.{Scene}
 pub use Rattle.std.specs.List.{flat_map, range_with_len}

@@ -1,6 +1,7 @@
 -- The shapes of what is to be seen.
-use Rattle.std.specs.Prelude.{ℕ, ◌+◌, ◌%◌, ◌==◌, nat_lt, nat_eq, if◌then◌else◌, List, [], ◌∷◌, ◌++◌}
-use Rattle.std.specs.Prelude.{length, Option, Some, None, slice_get, slice_index, codes, decimal}
+use Rattle.std.specs.Prelude.{ℕ, ◌+◌, ◌*◌, ◌%◌, Bool, ◌==◌, nat_lt, nat_eq, if◌then◌else◌, List, []}
+use Rattle.std.specs.Prelude.{◌∷◌, ◌++◌, length, Option, Some, None, slice_get, slice_index, codes}
+use Rattle.std.specs.Prelude.{decimal}
 use Rattle.std.specs.List.{count_by, flat_map, list_any, range_with_len}
 use Rattle.pg_base.specs.declared.side.Side.{Side}
 use Rattle.pg_base.specs.declared.side.Side.TheVariants.{X, Y}
@@ -8,20 +9,22 @@ use Rattle.pg_picture.specs.declared.paint.Paint.{Paint}
 use Rattle.pg_picture.specs.declared.paint.Paint.TheVariants as paints
 use Rattle.pg_draw.specs.Prelude.{Place, Shape, Square, Disc, Stroke, Bow, Words, Board, Grid, Ring}
 use Rattle.pg_draw.specs.Prelude.{Graph, Item, bend_of, courses_behind, have_same_ends, middle_of}
-use Rattle.pg_draw.specs.Prelude.{place_of_edge, at, lower, place_of_end, place_on_bridge}
-use Rattle.pg_draw.specs.Prelude.{place_on_grid, place_on_ring, upper_left, upper_right, Course}
+use Rattle.pg_draw.specs.Prelude.{place_of_edge, at, lower, lower_right, place_of_end}
+use Rattle.pg_draw.specs.Prelude.{place_on_bridge, place_on_grid, place_on_ring, upper_left}
+use Rattle.pg_draw.specs.Prelude.{upper_right, Course}
 use Rattle.pg_draw.specs.Prelude.{Straight, Bent, Around, CELL, HALF, Plan}
 use Rattle.pg_scene.specs.declared.item.Item.TheVariants as items
 use Rattle.pg_scene.specs.declared.item.Set.{Set}
 use Rattle.pg_scene.specs.declared.item.Set.TheVariants as sets
 use Rattle.pg_draw.specs.declared.measures.TheConstants.{BADGE_RADIUS, BADGE_RIGHT, BADGE_UP}
-use Rattle.pg_draw.specs.declared.measures.TheConstants.{CELL_MARK_DOWN, CELL_NUMBER_LEFT}
-use Rattle.pg_draw.specs.declared.measures.TheConstants.{CELL_NUMBER_UP, CHILD_RADIUS, CROSS_BOTTOM}
-use Rattle.pg_draw.specs.declared.measures.TheConstants.{CROSS_LEFT, CROSS_RIGHT, CROSS_TOP}
-use Rattle.pg_draw.specs.declared.measures.TheConstants.{DISC_MARK_DOWN, DISC_NUMBER_UP}
-use Rattle.pg_draw.specs.declared.measures.TheConstants.{LINE_DOT_RADIUS, LOOP_RADIUS}
+use Rattle.pg_draw.specs.declared.measures.TheConstants.{CELL_MARK_DOWN, CHILD_RADIUS, CORNER_LEFT}
+use Rattle.pg_draw.specs.declared.measures.TheConstants.{CORNER_UP, CROSS_BOTTOM, CROSS_LEFT}
+use Rattle.pg_draw.specs.declared.measures.TheConstants.{CROSS_RIGHT, CROSS_TOP, DISC_MARK_DOWN}
+use Rattle.pg_draw.specs.declared.measures.TheConstants.{DISC_NUMBER_UP, EDGE_CHILD_RADIUS}
+use Rattle.pg_draw.specs.declared.measures.TheConstants.{EDGE_NOTE_DOWN, LANES, LANE_ACROSS}
+use Rattle.pg_draw.specs.declared.measures.TheConstants.{LANE_DOWN, LINE_DOT_RADIUS, LOOP_RADIUS}
 use Rattle.pg_draw.specs.declared.measures.TheConstants.{MEMBER_RADIUS, NOTE_DOWN, PAIR_DOT_RADIUS}
-use Rattle.pg_draw.specs.declared.measures.TheConstants.{POINT_RADIUS, VERTEX_RADIUS}
+use Rattle.pg_draw.specs.declared.measures.TheConstants.{PLATE_RADIUS, POINT_RADIUS, VERTEX_RADIUS}
 
 -- ---- paints
 
@@ -46,6 +49,10 @@ set_paint sets.Second = paints.Second
 abbrev pub pair_paint : ℕ → Paint
 pair_paint number = paints.Pair (number % 8)
 
+-- the paint of the step of that number, from 1: attacks and forced replies take turns
+abbrev pub step_paint : ℕ → Paint
+step_paint number = if number % 2 == 1 then paints.Step else paints.Answer
+
 -- ---- places on a board
 
 -- what the places of vertices rest on: their number, and the rows of the Bridg-It board, where it
@@ -65,11 +72,33 @@ place_of (Grid width height) courses point = place_on_grid width point
 place_of (Ring points) courses point = place_on_ring points point
 place_of (Graph vertices ends terminals bridge) courses point = place_of_edge courses point
 
--- ---- points
+-- ---- words
 
 -- a number in digits
 abbrev pub number_at : Place → ℕ → Shape
 number_at place number = Words place (decimal number) paints.Number
+
+-- a number, if there are to be numbers
+abbrev pub number_if : Bool → Place → ℕ → List Shape
+number_if numbers place number = if numbers then number_at place number ∷ [] else []
+
+-- words that would lie over something else, on a ground of their own
+unfoldable pub note_shapes : Place → List ℕ → Paint → List Shape
+note_shapes place words paint =
+    Disc place PLATE_RADIUS paints.Plate ∷ Words place words paint ∷ []
+
+-- the number of an edge over its middle, if there are to be numbers
+abbrev pub note_if : Bool → Place → ℕ → List Shape
+note_if numbers place number =
+    if numbers then note_shapes place (decimal number) paints.Number else []
+
+-- ---- points
+
+-- the number of a cell in its corner, if there are to be numbers
+abbrev pub corner_if : Bool → Place → ℕ → List Shape
+corner_if numbers place point = if numbers
+    then Words (upper_left place CORNER_LEFT CORNER_UP) (decimal point) paints.Corner ∷ []
+    else []
 
 -- the letter of the side that has a point
 abbrev pub mark_shapes : Place → Option Side → List Shape
@@ -78,16 +107,15 @@ mark_shapes place (Some X) = Words place (codes "X") paints.Mark ∷ []
 mark_shapes place (Some Y) = Words place (codes "Y") paints.Mark ∷ []
 
 -- a point's cell, with its number and mark
-unfoldable pub cell_shapes : Place → ℕ → Option Side → List Shape
-cell_shapes place point mark = Square (upper_left place HALF HALF) CELL (point_paint mark)
-    ∷ number_at (upper_left place CELL_NUMBER_LEFT CELL_NUMBER_UP) point
-    ∷ mark_shapes (lower place CELL_MARK_DOWN) mark
+unfoldable pub cell_shapes : Bool → Place → ℕ → Option Side → List Shape
+cell_shapes numbers place point mark = Square (upper_left place HALF HALF) CELL (point_paint mark)
+    ∷ corner_if numbers place point ++ mark_shapes (lower place CELL_MARK_DOWN) mark
 
 -- a point's disc, with its number and mark
-unfoldable pub disc_shapes : Place → ℕ → Option Side → List Shape
-disc_shapes place point mark =
-    Disc place POINT_RADIUS (point_paint mark) ∷ number_at (upper_left place 0 DISC_NUMBER_UP) point
-    ∷ mark_shapes (lower place DISC_MARK_DOWN) mark
+unfoldable pub disc_shapes : Bool → Place → ℕ → Option Side → List Shape
+disc_shapes numbers place point mark = Disc place POINT_RADIUS (point_paint mark)
+    ∷ number_if numbers (upper_left place 0 DISC_NUMBER_UP) point
+    ++ mark_shapes (lower place DISC_MARK_DOWN) mark
 
 -- the shape of an edge: a stroke, a bow, or a ring for a loop
 abbrev pub course_shape : Course → Paint → Shape
@@ -101,19 +129,32 @@ course_shapes None paint = []
 course_shapes (Some course) paint = course_shape course paint ∷ []
 
 -- an edge, with its number over its middle
-unfoldable pub edge_shapes : List Course → ℕ → Paint → List Shape
-edge_shapes courses edge paint =
-    course_shapes (slice_get courses edge) paint ++ number_at (place_of_edge courses edge) edge ∷ []
+unfoldable pub edge_shapes : Bool → List Course → ℕ → Paint → List Shape
+edge_shapes numbers courses edge paint = course_shapes (slice_get courses edge) paint
+    ++ note_if numbers (place_of_edge courses edge) edge
 
 -- a point with its mark: a cell, a disc or an edge
-abbrev pub point_shapes : Board → List Course → ℕ → Option Side → List Shape
-point_shapes (Grid width height) courses point mark =
-    cell_shapes (place_on_grid width point) point mark
-point_shapes (Ring points) courses point mark = disc_shapes (place_on_ring points point) point mark
-point_shapes (Graph vertices ends terminals bridge) courses point mark =
-    edge_shapes courses point (edge_paint mark)
+abbrev pub point_shapes : Bool → Board → List Course → ℕ → Option Side → List Shape
+point_shapes numbers (Grid width height) courses point mark =
+    cell_shapes numbers (place_on_grid width point) point mark
+point_shapes numbers (Ring points) courses point mark =
+    disc_shapes numbers (place_on_ring points point) point mark
+point_shapes numbers (Graph vertices ends terminals bridge) courses point mark =
+    edge_shapes numbers courses point (edge_paint mark)
 
 -- ---- lines and pairs
+
+-- the place of a lane beside another, so that lines that lie over one another are told apart
+abbrev pub lane_place : ℕ → Place → Place
+lane_place lane place = if lane % LANES == 0 then place
+    else if lane % LANES == 1 then lower_right place LANE_ACROSS LANE_DOWN
+    else if lane % LANES == 2 then upper_left place LANE_ACROSS LANE_DOWN
+    else if lane % LANES == 3 then lower_right place (2 * LANE_ACROSS) (2 * LANE_DOWN)
+    else upper_left place (2 * LANE_ACROSS) (2 * LANE_DOWN)
+
+-- the place of a point of a line in that lane
+abbrev pub place_in : Board → List Course → ℕ → ℕ → Place
+place_in board courses lane point = lane_place lane (place_of board courses point)
 
 -- strokes from a place through those of the points
 abbrev pub strokes_behind : (ℕ → Place) → Place → List ℕ → List Shape
@@ -134,18 +175,18 @@ pair_shapes from to paint =
 
 -- a weight below a place
 abbrev pub weight_shapes : Place → List ℕ → List Shape
-weight_shapes place weight = Words (lower place NOTE_DOWN) weight paints.Weight ∷ []
+weight_shapes place weight = note_shapes (lower place NOTE_DOWN) weight paints.Weight
 
 -- ---- sets
 
 -- a member of a set: its edge once more, or a ring around the point
-abbrev pub member_shapes : Board → List Course → ℕ → Set → List Shape
-member_shapes (Grid width height) courses point set =
+abbrev pub member_shapes : Bool → Board → List Course → ℕ → Set → List Shape
+member_shapes numbers (Grid width height) courses point set =
     Disc (place_on_grid width point) MEMBER_RADIUS (set_paint set) ∷ []
-member_shapes (Ring points) courses point set =
+member_shapes numbers (Ring points) courses point set =
     Disc (place_on_ring points point) MEMBER_RADIUS (set_paint set) ∷ []
-member_shapes (Graph vertices ends terminals bridge) courses point set =
-    edge_shapes courses point (set_paint set)
+member_shapes numbers (Graph vertices ends terminals bridge) courses point set =
+    edge_shapes numbers courses point (set_paint set)
 
 -- the further edge between two terminals: bent further than all edges between them, and dashed
 unfoldable pub further_edge_shapes : Plan → List (ℕ × ℕ) → ℕ × ℕ → Set → List Shape
@@ -154,7 +195,7 @@ further_edge_shapes plan ends terminals set =
     let to = place_of_end plan terminals.1 terminals.0 in
     let bend = bend_of from to (count_by (have_same_ends terminals) ends + 1) in
     Bow from bend to (set_paint set) ∷ Bow from bend to paints.Extra
-    ∷ Words (middle_of (Bent from bend to)) (codes "e") paints.Number ∷ []
+    ∷ note_shapes (middle_of (Bent from bend to)) (codes "e") paints.Number
 
 -- the further edge between the terminals of a graph that has two
 abbrev pub extra_shapes : Board → Set → List Shape
@@ -171,8 +212,10 @@ extra_shapes (Graph vertices ends terminals bridge) set = if length terminals ==
 
 -- a number in a ring beside a place
 unfoldable pub badge_shapes : Place → ℕ → Paint → List Shape
-badge_shapes place number paint = Disc (upper_right place BADGE_RIGHT BADGE_UP) BADGE_RADIUS paint
-    ∷ number_at (upper_right place BADGE_RIGHT BADGE_UP) number ∷ []
+badge_shapes place number paint =
+    let centre = upper_right place BADGE_RIGHT BADGE_UP in
+    Disc centre BADGE_RADIUS paints.Plate ∷ Disc centre BADGE_RADIUS paint
+    ∷ number_at centre number ∷ []
 
 -- the number of a vertex's part
 abbrev pub part_shapes : Board → ℕ → ℕ → List Shape
@@ -181,14 +224,19 @@ part_shapes (Ring points) vertex part = []
 part_shapes (Graph vertices ends terminals bridge) vertex part =
     badge_shapes (place_of_end (plan_of vertices bridge) vertex vertex) part (pair_paint part)
 
--- an arrow to the number of a node
-abbrev pub child_text : ℕ → List ℕ
-child_text child = codes "-> " ++ decimal child
+-- a ring around a place, with the node that follows in it
+unfoldable pub ring_shapes : Place → ℕ → ℕ → ℕ → Paint → List Shape
+ring_shapes place radius down child paint =
+    Disc place radius paint ∷ note_shapes (lower place down) (decimal child) paint
 
--- a ring around a place, with the node that follows
-unfoldable pub reached_shapes : Place → ℕ → Paint → List Shape
-reached_shapes place child paint =
-    Disc place CHILD_RADIUS paint ∷ Words (lower place NOTE_DOWN) (child_text child) paint ∷ []
+-- a ring around a point: its number over its middle, if it is an edge, stays clear
+abbrev pub reached_shapes : Board → List Course → ℕ → ℕ → Paint → List Shape
+reached_shapes (Grid width height) courses point child paint =
+    ring_shapes (place_on_grid width point) CHILD_RADIUS NOTE_DOWN child paint
+reached_shapes (Ring points) courses point child paint =
+    ring_shapes (place_on_ring points point) CHILD_RADIUS NOTE_DOWN child paint
+reached_shapes (Graph vertices ends terminals bridge) courses point child paint =
+    ring_shapes (place_of_edge courses point) EDGE_CHILD_RADIUS EDGE_NOTE_DOWN child paint
 
 -- a cross beside the heading
 unfoldable pub fault_shapes : List Shape
@@ -198,22 +246,24 @@ fault_shapes = Stroke (at CROSS_LEFT CROSS_TOP) (at CROSS_RIGHT CROSS_BOTTOM) pa
 -- ---- items
 
 -- the shapes of an item
-abbrev pub item_shapes : Board → List Course → Item → List Shape
-item_shapes board courses (items.Point v mark) = point_shapes board courses v mark
-item_shapes board courses (items.Line vs) = line_shapes (place_of board courses) vs
-item_shapes board courses (items.Pair v w number) =
+abbrev pub item_shapes : Bool → Board → List Course → Item → List Shape
+item_shapes numbers board courses (items.Point v mark) = point_shapes numbers board courses v mark
+item_shapes numbers board courses (items.Line vs lane) =
+    line_shapes (place_in board courses lane) vs
+item_shapes numbers board courses (items.Pair v w number) =
     pair_shapes (place_of board courses v) (place_of board courses w) (pair_paint number)
-item_shapes board courses (items.Weight v weight) = weight_shapes (place_of board courses v) weight
-item_shapes board courses (items.Member v set) = member_shapes board courses v set
-item_shapes board courses (items.Extra set) = extra_shapes board set
-item_shapes board courses (items.Step v number) =
-    badge_shapes (place_of board courses v) number paints.Step
-item_shapes board courses (items.Move v child) =
-    reached_shapes (place_of board courses v) child paints.Move
-item_shapes board courses (items.Reply v child) =
-    reached_shapes (place_of board courses v) child paints.Reply
-item_shapes board courses (items.Part u part) = part_shapes board u part
-item_shapes board courses items.Fault = fault_shapes
+item_shapes numbers board courses (items.Weight v weight) =
+    weight_shapes (place_of board courses v) weight
+item_shapes numbers board courses (items.Member v set) = member_shapes numbers board courses v set
+item_shapes numbers board courses (items.Extra set) = extra_shapes board set
+item_shapes numbers board courses (items.Step v number) =
+    badge_shapes (place_of board courses v) number (step_paint number)
+item_shapes numbers board courses (items.Move v child) =
+    reached_shapes board courses v child paints.Move
+item_shapes numbers board courses (items.Reply v child) =
+    reached_shapes board courses v child paints.Reply
+item_shapes numbers board courses (items.Part u part) = part_shapes board u part
+item_shapes numbers board courses items.Fault = fault_shapes
 
 -- ---- vertices
 
@@ -231,14 +281,15 @@ vertex_paint terminals vertex =
     if list_any (nat_eq vertex) terminals then paints.Terminal else paints.Vertex
 
 -- a vertex with its number
-unfoldable pub vertex_shapes : Plan → List ℕ → ℕ → List Shape
-vertex_shapes plan terminals vertex =
+unfoldable pub vertex_shapes : Bool → Plan → List ℕ → ℕ → List Shape
+vertex_shapes numbers plan terminals vertex =
     bar_shapes plan.bridge vertex ++ Disc (place_of_end plan vertex vertex) VERTEX_RADIUS
-    (vertex_paint terminals vertex) ∷ number_at (place_of_end plan vertex vertex) vertex ∷ []
+    (vertex_paint terminals vertex)
+    ∷ number_if numbers (place_of_end plan vertex vertex) vertex
 
 -- the vertices of a board
-abbrev pub vertices_shapes : Board → List Shape
-vertices_shapes (Grid width height) = []
-vertices_shapes (Ring points) = []
-vertices_shapes (Graph vertices ends terminals bridge) =
-    flat_map (vertex_shapes (plan_of vertices bridge) terminals) (range_with_len 0 vertices)
+abbrev pub vertices_shapes : Bool → Board → List Shape
+vertices_shapes numbers (Grid width height) = []
+vertices_shapes numbers (Ring points) = []
+vertices_shapes numbers (Graph vertices ends terminals bridge) =
+    flat_map (vertex_shapes numbers (plan_of vertices bridge) terminals) (range_with_len 0 vertices)

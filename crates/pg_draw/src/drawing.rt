@@ -1,19 +1,22 @@
 //! Scenes as pictures.
-ghost use Rattle.std.specs.Prelude.{◌≡◌, ◌++◌, ◌≤◌, OnOk, IfOk, length};
+ghost use Rattle.std.specs.Prelude.{◌≡◌, ◌++◌, ◌<◌, ◌≤◌, OnOk, IfOk, length};
 ghost use Rattle.pg_draw.specs.Prelude.{flat_map, range_with_len, IsBoard, IsPlan};
 ghost use Rattle.pg_draw.specs.Shapes.{bar_shapes, vertex_paint, vertex_shapes, vertices_shapes};
-ghost use Rattle.pg_draw.specs.Pictures.{legend_shapes, picture_of, shapes_of, width_of};
+ghost use Rattle.pg_draw.specs.Pictures.{height_of, legend_shapes, picture_of, shapes_of, width_of};
 ghost use Rattle.pg_scene.specs.declared.lines.TheConstants.{MAX_LEGEND_LINES};
 
 use crate::boards::courses_of;
 use crate::items::push_items;
-use crate::measures::{HEADING_DOWN, HEADING_LETTER, LEADING, MAX_CORNER_REACH, VERTEX_RADIUS};
+use crate::measures::{
+    HEADING_DOWN, HEADING_LETTER, LEADING, MAX_CORNER_REACH, MAX_PICTURE_REACH, VERTEX_RADIUS,
+};
+use crate::sheet::{boards_of, columns_for, copy_places, rows_for, times};
 use crate::size::{far_corner, text_width, widest};
-use crate::words::{push_number, push_words, text_of};
+use crate::words::{push_number_if, push_words, text_of};
 use pg_base::Memory;
 use pg_picture::{Paint, Picture, Place, Shape, Shapes};
 use pg_places::{Courses, MARGIN, Plan, place_on_bridge};
-use pg_scene::{Board, Scene, Text};
+use pg_scene::{Board, Look, Scene, Text};
 use std::alloc::Global;
 
 /// Adds the bar of a terminal of a Bridg-It board, from the first row on.
@@ -49,13 +52,15 @@ fn vertex_paint(terminals: &[u16], vertex: u16) -> Paint
 fn push_vertex(
     alloc: Global,
     shapes: &mut Vec<Shape>,
+    numbers: bool,
     plan: Plan,
     terminals: &[u16],
     vertex: u16,
 ) -> Result<(), Memory>
     requires { IsPlan plan }
     ensures { OnOk result
-        (shapes.new.items ≡ shapes.old.items ++ vertex_shapes plan terminals.now vertex) }
+        (shapes.new.items
+        ≡ shapes.old.items ++ vertex_shapes numbers plan terminals.now vertex) }
 {
     push_bar(shapes, plan, vertex)?;
     let centre = plan.place_of_end(vertex, vertex);
@@ -65,13 +70,14 @@ fn push_vertex(
         radius: VERTEX_RADIUS,
         paint,
     })?;
-    push_number(alloc, shapes, centre, vertex as usize, Paint::Number)
+    push_number_if(alloc, shapes, numbers, centre, vertex as usize)
 }
 
 /// Adds so many vertices.
 fn push_each_vertex(
     alloc: Global,
     shapes: &mut Vec<Shape>,
+    numbers: bool,
     plan: Plan,
     terminals: &[u16],
     count: u16,
@@ -79,18 +85,24 @@ fn push_each_vertex(
     requires { IsPlan plan }
     ensures { OnOk result
         (shapes.new.items ≡ shapes.old.items
-        ++ flat_map (vertex_shapes plan terminals.now) (range_with_len 0 count)) }
+        ++ flat_map (vertex_shapes numbers plan terminals.now) (range_with_len 0 count)) }
 {
     for vertex in 0..count {
-        push_vertex(alloc, shapes, plan, terminals, vertex)?;
+        push_vertex(alloc, shapes, numbers, plan, terminals, vertex)?;
     }
     Ok(())
 }
 
 /// Adds the vertices of a board.
-fn push_vertices(alloc: Global, shapes: &mut Vec<Shape>, board: &Board) -> Result<(), Memory>
+fn push_vertices(
+    alloc: Global,
+    shapes: &mut Vec<Shape>,
+    numbers: bool,
+    board: &Board,
+) -> Result<(), Memory>
     requires { IsBoard board.now }
-    ensures { OnOk result (shapes.new.items ≡ shapes.old.items ++ vertices_shapes board.now) }
+    ensures { OnOk result
+        (shapes.new.items ≡ shapes.old.items ++ vertices_shapes numbers board.now) }
 {
     let Board::Graph {
         vertices,
@@ -105,7 +117,14 @@ fn push_vertices(alloc: Global, shapes: &mut Vec<Shape>, board: &Board) -> Resul
         vertices: *vertices,
         bridge: *bridge,
     };
-    push_each_vertex(alloc, shapes, plan, terminals.as_slice(), *vertices as u16)
+    push_each_vertex(
+        alloc,
+        shapes,
+        numbers,
+        plan,
+        terminals.as_slice(),
+        *vertices as u16,
+    )
 }
 
 /// Adds the lines of a legend below a place.
@@ -134,6 +153,7 @@ fn push_legend(
 /// The shapes of a scene, where its legend stands below that place.
 fn shapes_of(
     alloc: Global,
+    numbers: bool,
     scene: &Scene,
     courses: &Courses,
     bottom: u32,
@@ -141,7 +161,8 @@ fn shapes_of(
     requires board { IsBoard scene.now.board }
     requires bottom { bottom ≤ MAX_CORNER_REACH }
     requires few { length scene.now.legend ≤ MAX_LEGEND_LINES }
-    ensures { IfOk result (λ shapes. shapes.items ≡ shapes_of scene.now courses.now bottom) }
+    ensures { IfOk result (λ shapes. shapes.items
+        ≡ shapes_of numbers scene.now courses.now bottom) }
 {
     let mut shapes = Vec::new(alloc);
     let at = Place {
@@ -152,11 +173,12 @@ fn shapes_of(
     push_items(
         alloc,
         &mut shapes,
+        numbers,
         &scene.board,
         courses,
         scene.items.as_slice(),
     )?;
-    push_vertices(alloc, &mut shapes, &scene.board)?;
+    push_vertices(alloc, &mut shapes, numbers, &scene.board)?;
     push_legend(alloc, &mut shapes, bottom, scene.legend.as_slice())?;
     Ok(shapes)
 }
@@ -164,33 +186,52 @@ fn shapes_of(
 /// How wide the picture of a scene is whose board reaches so far.
 fn width_of(scene: &Scene, across: u32) -> u32
     requires { across ≤ MAX_CORNER_REACH }
-    ensures { result ≡ width_of scene.now across }
+    ensures width { result ≡ width_of scene.now across }
+    ensures small { result < MAX_PICTURE_REACH }
 {
     let title = text_width(HEADING_LETTER, scene.title.as_str());
     let legend = widest(scene.legend.as_slice());
     MARGIN + across.max(title).max(legend)
 }
 
-/// The picture of a scene: its title, the shapes of each item in the order of the items, the
-/// vertices of a graph, and the legend. The board is within the limits of games, and the legend has
-/// at most `MAX_LEGEND_LINES` lines. A unit is a pixel.
+/// How high the picture of a scene is whose board reaches so far.
+fn height_of(scene: &Scene, down: u32) -> u32
+    requires down { down ≤ MAX_CORNER_REACH }
+    requires few { length scene.now.legend ≤ MAX_LEGEND_LINES }
+    ensures height { result ≡ height_of scene.now down }
+    ensures small { result < MAX_PICTURE_REACH }
+{
+    down + MARGIN + LEADING * scene.legend.as_slice().len() as u32
+}
+
+/// Returns the picture of a scene: its title, the shapes of each item in the order of the items,
+/// the vertices of a graph, and the legend. The board is within the limits of games, and the legend
+/// has at most `MAX_LEGEND_LINES` lines. `look` says whether there are numbers, at what width the
+/// picture is shown (a unit is a pixel if it doesn't say that), and how many boards are on the
+/// sheet: one if it doesn't say that, and at most `MAX_BOARDS`, three in a row.
 ///
 /// # Errors
 ///
-/// `Memory` where no memory is found.
+/// `Memory` if memory ran out.
 #[tactic(auto, unfolding(crate::specs::Pictures::picture_of))]
-pub fn draw(alloc: Global, scene: &Scene) -> Result<Picture, Memory>
+pub fn draw(alloc: Global, scene: &Scene, look: Look) -> Result<Picture, Memory>
     requires board { IsBoard scene.now.board }
     requires few { length scene.now.legend ≤ MAX_LEGEND_LINES }
-    ensures { IfOk result (λ picture. picture ≡ picture_of scene.now) }
+    ensures { IfOk result (λ picture. picture ≡ picture_of look scene.now) }
 {
     let courses = courses_of(alloc, &scene.board)?;
     let corner = far_corner(&scene.board, &courses);
-    let shapes = shapes_of(alloc, scene, &courses, corner.down)?;
+    let shapes = shapes_of(alloc, look.numbers, scene, &courses, corner.down)?;
+    let width = width_of(scene, corner.across);
+    let height = height_of(scene, corner.down);
+    let boards = boards_of(look.blank);
+    let copies = copy_places(alloc, width, height, boards)?;
     Ok(Picture {
-        width: width_of(scene, corner.across),
-        height: corner.down + MARGIN + LEADING * scene.legend.as_slice().len() as u32,
+        width: times(width, columns_for(boards)),
+        height: times(height, rows_for(boards)),
+        size: look.size,
         title: text_of(alloc, scene.title.as_str())?,
         shapes: Shapes::from_vec(shapes),
+        copies,
     })
 }

@@ -2,48 +2,77 @@
 ghost use Rattle.std.specs.Prelude.{◌≡◌, ◌≤◌, ◌++◌, OnOk, length};
 ghost use Rattle.pg_draw.specs.Prelude.{flat_map, IsBoard, MAX_EDGES, IsPlan, IsWithin};
 ghost use Rattle.pg_draw.specs.Shapes.{badge_shapes, extra_shapes, fault_shapes, item_shapes};
-ghost use Rattle.pg_draw.specs.Shapes.{line_shapes, member_shapes, pair_shapes, part_shapes};
-ghost use Rattle.pg_draw.specs.Shapes.{place_of, reached_shapes, further_edge_shapes};
-ghost use Rattle.pg_draw.specs.Shapes.{weight_shapes};
+ghost use Rattle.pg_draw.specs.Shapes.{lane_place, line_shapes, member_shapes, pair_shapes};
+ghost use Rattle.pg_draw.specs.Shapes.{part_shapes, place_in, reached_shapes, ring_shapes};
+ghost use Rattle.pg_draw.specs.Shapes.{further_edge_shapes, weight_shapes};
 
 use crate::boards::place_of;
 use crate::marks::{push_edge, push_point};
 use crate::measures::{
     BADGE_RADIUS, BADGE_RIGHT, BADGE_UP, CHILD_RADIUS, CROSS_BOTTOM, CROSS_LEFT, CROSS_RIGHT,
-    CROSS_TOP, LINE_DOT_RADIUS, MEMBER_RADIUS, NOTE_DOWN, PAIR_DOT_RADIUS,
+    CROSS_TOP, EDGE_CHILD_RADIUS, EDGE_NOTE_DOWN, LANE_ACROSS, LANE_DOWN, LANES, LINE_DOT_RADIUS,
+    MEMBER_RADIUS, NOTE_DOWN, PAIR_DOT_RADIUS,
 };
-use crate::paints::{pair_paint, set_paint};
-use crate::words::{push_child, push_number, push_words};
+use crate::paints::{pair_paint, set_paint, step_paint};
+use crate::words::{push_note, push_number, push_number_note, push_plate};
 use pg_base::Memory;
 use pg_picture::{Paint, Place, Shape};
 use pg_places::{
-    Course, Courses, MAX_MIDDLE_REACH, Plan, bend_of, lower, middle_of, parallels, upper_right,
+    Course, Courses, MAX_MIDDLE_REACH, Plan, bend_of, lower, lower_right, middle_of, parallels,
+    upper_left, upper_right,
 };
 use pg_scene::{Board, Item, Set, Text};
 use std::alloc::Global;
 
-/// Adds a dot at the first of these points, and strokes from each to the next.
+/// The place of a lane beside another.
+fn lane_place(lane: usize, place: Place) -> Place
+    requires { IsWithin MAX_MIDDLE_REACH place }
+    ensures { result ≡ lane_place lane place }
+{
+    let among = lane % LANES;
+    if among == 0 {
+        place
+    } else if among == 1 {
+        lower_right(place, LANE_ACROSS, LANE_DOWN)
+    } else if among == 2 {
+        upper_left(place, LANE_ACROSS, LANE_DOWN)
+    } else if among == 3 {
+        lower_right(place, 2 * LANE_ACROSS, 2 * LANE_DOWN)
+    } else {
+        upper_left(place, 2 * LANE_ACROSS, 2 * LANE_DOWN)
+    }
+}
+
+/// The place of a point of a line in that lane.
+fn place_in(board: &Board, courses: &Courses, lane: usize, point: u16) -> Place
+    ensures { result ≡ place_in board.now courses.now lane point }
+{
+    lane_place(lane, place_of(board, courses, point))
+}
+
+/// Adds a dot at the first of the points of a line, and strokes from each to the next.
 fn push_line(
     shapes: &mut Vec<Shape>,
     board: &Board,
     courses: &Courses,
+    lane: usize,
     points: &[u16],
 ) -> Result<(), Memory>
     ensures { OnOk result
         (shapes.new.items
-        ≡ shapes.old.items ++ line_shapes (place_of board.now courses.now) points.now) }
+        ≡ shapes.old.items ++ line_shapes (place_in board.now courses.now lane) points.now) }
 {
     let Some((first, others)) = points.split_first() else {
         return Ok(());
     };
-    let mut from = place_of(board, courses, *first);
+    let mut from = place_in(board, courses, lane, *first);
     shapes.push(Shape::Disc {
         centre: from,
         radius: LINE_DOT_RADIUS,
         paint: Paint::Line,
     })?;
     for point in others {
-        let to = place_of(board, courses, *point);
+        let to = place_in(board, courses, lane, *point);
         shapes.push(Shape::Stroke {
             from,
             to,
@@ -84,24 +113,26 @@ fn push_weight(
     ensures { OnOk result (shapes.new.items ≡ shapes.old.items ++ weight_shapes place weight.now) }
 {
     let under = lower(place, NOTE_DOWN);
-    push_words(alloc, shapes, under, weight.as_str(), Paint::Weight)
+    push_note(alloc, shapes, under, weight.as_str(), Paint::Weight)
 }
 
 /// Adds a member of a set.
 fn push_member(
     alloc: Global,
     shapes: &mut Vec<Shape>,
+    numbers: bool,
     board: &Board,
     courses: &Courses,
     point: u16,
     set: Set,
 ) -> Result<(), Memory>
     ensures { OnOk result
-        (shapes.new.items ≡ shapes.old.items ++ member_shapes board.now courses.now point set) }
+        (shapes.new.items
+        ≡ shapes.old.items ++ member_shapes numbers board.now courses.now point set) }
 {
     let paint = set_paint(set);
     if let Board::Graph { .. } = board {
-        return push_edge(alloc, shapes, courses, point, paint);
+        return push_edge(alloc, shapes, numbers, courses, point, paint);
     }
     let centre = place_of(board, courses, point);
     shapes.push(Shape::Disc {
@@ -144,7 +175,7 @@ fn push_further_edge(
         paint: Paint::Extra,
     })?;
     let middle = middle_of(Course::Bent { from, bend, to });
-    push_words(alloc, shapes, middle, "e", Paint::Number)
+    push_note(alloc, shapes, middle, "e", Paint::Number)
 }
 
 /// Adds the further edge between the terminals of a board, where it has two.
@@ -192,6 +223,7 @@ fn push_badge(
     ensures { OnOk result (shapes.new.items ≡ shapes.old.items ++ badge_shapes place number paint) }
 {
     let centre = upper_right(place, BADGE_RIGHT, BADGE_UP);
+    push_plate(shapes, centre, BADGE_RADIUS)?;
     shapes.push(Shape::Disc {
         centre,
         radius: BADGE_RADIUS,
@@ -234,25 +266,63 @@ fn push_part(
     )
 }
 
-/// Adds a ring around a place, with the node that follows.
-#[tactic(auto, unfolding(crate::specs::Shapes::reached_shapes))]
-fn push_reached(
+/// Adds a ring around a place, with the node that follows in it.
+#[tactic(auto, unfolding(crate::specs::Shapes::ring_shapes))]
+fn push_ring(
     alloc: Global,
     shapes: &mut Vec<Shape>,
-    place: Place,
+    centre: Place,
+    radius: u32,
+    down: u32,
     child: u32,
     paint: Paint,
 ) -> Result<(), Memory>
-    requires { IsWithin MAX_MIDDLE_REACH place }
+    requires near { IsWithin MAX_MIDDLE_REACH centre }
+    requires down { down ≤ EDGE_NOTE_DOWN }
     ensures { OnOk result
-        (shapes.new.items ≡ shapes.old.items ++ reached_shapes place child paint) }
+        (shapes.new.items ≡ shapes.old.items ++ ring_shapes centre radius down child paint) }
 {
     shapes.push(Shape::Disc {
-        centre: place,
-        radius: CHILD_RADIUS,
+        centre,
+        radius,
         paint,
     })?;
-    push_child(alloc, shapes, lower(place, NOTE_DOWN), child, paint)
+    let at = lower(centre, down);
+    push_number_note(alloc, shapes, at, child as usize, paint)
+}
+
+/// Adds a ring around a point, with the node that follows in it.
+fn push_reached(
+    alloc: Global,
+    shapes: &mut Vec<Shape>,
+    board: &Board,
+    courses: &Courses,
+    point: u16,
+    child: u32,
+    paint: Paint,
+) -> Result<(), Memory>
+    ensures { OnOk result
+        (shapes.new.items
+        ≡ shapes.old.items ++ reached_shapes board.now courses.now point child paint) }
+{
+    let place = place_of(board, courses, point);
+    match board {
+        Board::Grid { .. } => {
+            push_ring(alloc, shapes, place, CHILD_RADIUS, NOTE_DOWN, child, paint)
+        }
+        Board::Ring { .. } => {
+            push_ring(alloc, shapes, place, CHILD_RADIUS, NOTE_DOWN, child, paint)
+        }
+        Board::Graph { .. } => push_ring(
+            alloc,
+            shapes,
+            place,
+            EDGE_CHILD_RADIUS,
+            EDGE_NOTE_DOWN,
+            child,
+            paint,
+        ),
+    }
 }
 
 /// Adds the cross of a fault.
@@ -289,34 +359,40 @@ fn push_fault(shapes: &mut Vec<Shape>) -> Result<(), Memory>
 fn push_item(
     alloc: Global,
     shapes: &mut Vec<Shape>,
+    numbers: bool,
     board: &Board,
     courses: &Courses,
     item: &Item,
 ) -> Result<(), Memory>
     requires { IsBoard board.now }
     ensures { OnOk result
-        (shapes.new.items ≡ shapes.old.items ++ item_shapes board.now courses.now item.now) }
+        (shapes.new.items
+        ≡ shapes.old.items ++ item_shapes numbers board.now courses.now item.now) }
 {
     let place = |point: &u16| place_of(board, courses, *point);
     match item {
-        Item::Point { point, mark } => push_point(alloc, shapes, board, courses, *point, *mark),
-        Item::Line { points } => push_line(shapes, board, courses, points.as_slice()),
+        Item::Point { point, mark } => {
+            push_point(alloc, shapes, numbers, board, courses, *point, *mark)
+        }
+        Item::Line { points, lane } => push_line(shapes, board, courses, *lane, points.as_slice()),
         Item::Pair {
             first,
             second,
             number,
         } => push_pair(shapes, place(first), place(second), pair_paint(*number)),
         Item::Weight { point, weight } => push_weight(alloc, shapes, place(point), weight),
-        Item::Member { point, set } => push_member(alloc, shapes, board, courses, *point, *set),
+        Item::Member { point, set } => {
+            push_member(alloc, shapes, numbers, board, courses, *point, *set)
+        }
         Item::Extra { set } => push_extra(alloc, shapes, board, *set),
         Item::Step { point, number } => {
-            push_badge(alloc, shapes, place(point), *number, Paint::Step)
+            push_badge(alloc, shapes, place(point), *number, step_paint(*number))
         }
         Item::Move { point, child } => {
-            push_reached(alloc, shapes, place(point), *child, Paint::Move)
+            push_reached(alloc, shapes, board, courses, *point, *child, Paint::Move)
         }
         Item::Reply { point, child } => {
-            push_reached(alloc, shapes, place(point), *child, Paint::Reply)
+            push_reached(alloc, shapes, board, courses, *point, *child, Paint::Reply)
         }
         Item::Part { vertex, part } => push_part(alloc, shapes, board, *vertex, *part),
         Item::Fault => push_fault(shapes),
@@ -327,6 +403,7 @@ fn push_item(
 pub(crate) fn push_items(
     alloc: Global,
     shapes: &mut Vec<Shape>,
+    numbers: bool,
     board: &Board,
     courses: &Courses,
     items: &[Item],
@@ -334,10 +411,11 @@ pub(crate) fn push_items(
     requires { IsBoard board.now }
     ensures { OnOk result
         (shapes.new.items
-        ≡ shapes.old.items ++ flat_map (item_shapes board.now courses.now) items.now) }
+        ≡ shapes.old.items
+        ++ flat_map (item_shapes numbers board.now courses.now) items.now) }
 {
     for item in items {
-        push_item(alloc, shapes, board, courses, item)?;
+        push_item(alloc, shapes, numbers, board, courses, item)?;
     }
     Ok(())
 }

@@ -8,7 +8,9 @@ pub mod laws;
 mod marks;
 mod measures;
 mod paints;
+mod sheet;
 mod size;
 mod words;
 
 pub use drawing::draw;
+pub use measures::MAX_BOARDS;

@@ -1,16 +1,16 @@
 //! The shapes of points.
 ghost use Rattle.std.specs.Prelude.{◌≡◌, ◌++◌, OnOk};
 ghost use Rattle.pg_draw.specs.Prelude.{IsWithin};
-ghost use Rattle.pg_draw.specs.Shapes.{cell_shapes, course_shape, disc_shapes, edge_shapes};
-ghost use Rattle.pg_draw.specs.Shapes.{mark_shapes, point_shapes};
+ghost use Rattle.pg_draw.specs.Shapes.{cell_shapes, corner_if, course_shape, disc_shapes};
+ghost use Rattle.pg_draw.specs.Shapes.{edge_shapes, mark_shapes, note_if, point_shapes};
 
 use crate::boards::place_of;
 use crate::measures::{
-    CELL_MARK_DOWN, CELL_NUMBER_LEFT, CELL_NUMBER_UP, DISC_MARK_DOWN, DISC_NUMBER_UP, LOOP_RADIUS,
+    CELL_MARK_DOWN, CORNER_LEFT, CORNER_UP, DISC_MARK_DOWN, DISC_NUMBER_UP, LOOP_RADIUS,
     POINT_RADIUS,
 };
 use crate::paints::{edge_paint, point_paint};
-use crate::words::{push_number, push_words};
+use crate::words::{push_number, push_number_if, push_number_note, push_words};
 use pg_base::{Memory, Side};
 use pg_picture::{Paint, Place, Shape};
 use pg_places::{CELL, Course, Courses, HALF, MAX_MIDDLE_REACH, lower, upper_left};
@@ -33,17 +33,36 @@ fn push_mark(
     }
 }
 
+/// Adds the number of a cell in its corner, if there are to be numbers.
+fn push_corner(
+    alloc: Global,
+    shapes: &mut Vec<Shape>,
+    numbers: bool,
+    place: Place,
+    point: u16,
+) -> Result<(), Memory>
+    ensures { OnOk result (shapes.new.items ≡ shapes.old.items ++ corner_if numbers place point) }
+{
+    if numbers {
+        let at = upper_left(place, CORNER_LEFT, CORNER_UP);
+        push_number(alloc, shapes, at, point as usize, Paint::Corner)?;
+    }
+    Ok(())
+}
+
 /// Adds the cell of a point, with its number and mark.
 #[tactic(auto, unfolding(crate::specs::Shapes::cell_shapes))]
 fn push_cell(
     alloc: Global,
     shapes: &mut Vec<Shape>,
+    numbers: bool,
     place: Place,
     point: u16,
     mark: Option<Side>,
 ) -> Result<(), Memory>
     requires { IsWithin MAX_MIDDLE_REACH place }
-    ensures { OnOk result (shapes.new.items ≡ shapes.old.items ++ cell_shapes place point mark) }
+    ensures { OnOk result
+        (shapes.new.items ≡ shapes.old.items ++ cell_shapes numbers place point mark) }
 {
     let corner = upper_left(place, HALF, HALF);
     let paint = point_paint(mark);
@@ -52,8 +71,7 @@ fn push_cell(
         side: CELL,
         paint,
     })?;
-    let above = upper_left(place, CELL_NUMBER_LEFT, CELL_NUMBER_UP);
-    push_number(alloc, shapes, above, point as usize, Paint::Number)?;
+    push_corner(alloc, shapes, numbers, place, point)?;
     push_mark(alloc, shapes, lower(place, CELL_MARK_DOWN), mark)
 }
 
@@ -62,12 +80,14 @@ fn push_cell(
 fn push_disc(
     alloc: Global,
     shapes: &mut Vec<Shape>,
+    numbers: bool,
     centre: Place,
     point: u16,
     mark: Option<Side>,
 ) -> Result<(), Memory>
     requires { IsWithin MAX_MIDDLE_REACH centre }
-    ensures { OnOk result (shapes.new.items ≡ shapes.old.items ++ disc_shapes centre point mark) }
+    ensures { OnOk result
+        (shapes.new.items ≡ shapes.old.items ++ disc_shapes numbers centre point mark) }
 {
     let paint = point_paint(mark);
     shapes.push(Shape::Disc {
@@ -76,7 +96,7 @@ fn push_disc(
         paint,
     })?;
     let above = upper_left(centre, 0, DISC_NUMBER_UP);
-    push_number(alloc, shapes, above, point as usize, Paint::Number)?;
+    push_number_if(alloc, shapes, numbers, above, point as usize)?;
     push_mark(alloc, shapes, lower(centre, DISC_MARK_DOWN), mark)
 }
 
@@ -100,41 +120,62 @@ fn course_shape(course: Course, paint: Paint) -> Shape
     }
 }
 
+/// Adds the number of an edge over its middle, if there are to be numbers.
+fn push_note_if(
+    alloc: Global,
+    shapes: &mut Vec<Shape>,
+    numbers: bool,
+    at: Place,
+    number: usize,
+) -> Result<(), Memory>
+    ensures { OnOk result (shapes.new.items ≡ shapes.old.items ++ note_if numbers at number) }
+{
+    if numbers {
+        push_number_note(alloc, shapes, at, number, Paint::Number)?;
+    }
+    Ok(())
+}
+
 /// Adds an edge, with its number over it.
 #[tactic(auto, unfolding(crate::specs::Shapes::edge_shapes))]
 pub(crate) fn push_edge(
     alloc: Global,
     shapes: &mut Vec<Shape>,
+    numbers: bool,
     courses: &Courses,
     edge: u16,
     paint: Paint,
 ) -> Result<(), Memory>
     ensures { OnOk result
-        (shapes.new.items ≡ shapes.old.items ++ edge_shapes courses.now edge paint) }
+        (shapes.new.items ≡ shapes.old.items ++ edge_shapes numbers courses.now edge paint) }
 {
     if let Some(course) = courses.at(edge) {
         shapes.push(course_shape(course, paint))?;
     }
     let middle = courses.place_of(edge);
-    push_number(alloc, shapes, middle, edge as usize, Paint::Number)
+    push_note_if(alloc, shapes, numbers, middle, edge as usize)
 }
 
 /// Adds a point with its mark.
 pub(crate) fn push_point(
     alloc: Global,
     shapes: &mut Vec<Shape>,
+    numbers: bool,
     board: &Board,
     courses: &Courses,
     point: u16,
     mark: Option<Side>,
 ) -> Result<(), Memory>
     ensures { OnOk result
-        (shapes.new.items ≡ shapes.old.items ++ point_shapes board.now courses.now point mark) }
+        (shapes.new.items
+        ≡ shapes.old.items ++ point_shapes numbers board.now courses.now point mark) }
 {
     let place = place_of(board, courses, point);
     match board {
-        Board::Grid { .. } => push_cell(alloc, shapes, place, point, mark),
-        Board::Ring { .. } => push_disc(alloc, shapes, place, point, mark),
-        Board::Graph { .. } => push_edge(alloc, shapes, courses, point, edge_paint(mark)),
+        Board::Grid { .. } => push_cell(alloc, shapes, numbers, place, point, mark),
+        Board::Ring { .. } => push_disc(alloc, shapes, numbers, place, point, mark),
+        Board::Graph { .. } => {
+            push_edge(alloc, shapes, numbers, courses, point, edge_paint(mark))
+        }
     }
 }

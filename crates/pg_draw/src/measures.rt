@@ -1,7 +1,7 @@
 //! The measures of pictures, in units.
 
 /// How far apart the lines of the legend are.
-pub(crate) const LEADING: u32 = 18;
+pub(crate) const LEADING: u32 = 16;
 
 /// How many letters of a text count for the width of a picture.
 pub(crate) const MAX_COUNTED_LETTERS: usize = 1000;
@@ -10,22 +10,28 @@ pub(crate) const MAX_COUNTED_LETTERS: usize = 1000;
 pub(crate) const POINT_RADIUS: u32 = 20;
 
 /// How far above the middle of a disc its number stands.
-pub(crate) const DISC_NUMBER_UP: u32 = 8;
+pub(crate) const DISC_NUMBER_UP: u32 = 10;
 
 /// How far below the middle of a disc its mark stands.
-pub(crate) const DISC_MARK_DOWN: u32 = 8;
+pub(crate) const DISC_MARK_DOWN: u32 = 6;
 
-/// How far left of the middle of a cell its number stands.
-pub(crate) const CELL_NUMBER_LEFT: u32 = 11;
+/// How far left of the middle of a cell its number begins.
+pub(crate) const CORNER_LEFT: u32 = 21;
 
 /// How far above the middle of a cell its number stands.
-pub(crate) const CELL_NUMBER_UP: u32 = 13;
+pub(crate) const CORNER_UP: u32 = 15;
 
 /// How far below the middle of a cell its mark stands.
 pub(crate) const CELL_MARK_DOWN: u32 = 5;
 
-/// How far below a place its weight stands, or the node that follows.
-pub(crate) const NOTE_DOWN: u32 = 14;
+/// How far below the middle of a cell or disc its weight stands, or the node that follows.
+pub(crate) const NOTE_DOWN: u32 = 6;
+
+/// How far below the middle of an edge the node that follows stands.
+pub(crate) const EDGE_NOTE_DOWN: u32 = 14;
+
+/// The radius of the ground of words.
+pub(crate) const PLATE_RADIUS: u32 = 9;
 
 /// The radius of a loop.
 pub(crate) const LOOP_RADIUS: u32 = 14;
@@ -42,26 +48,44 @@ pub(crate) const PAIR_DOT_RADIUS: u32 = 5;
 /// The radius of the ring around a member of a set.
 pub(crate) const MEMBER_RADIUS: u32 = 16;
 
-/// The radius of the ring around a point at which a node follows.
+/// The radius of the ring around a cell or disc at which a node follows.
 pub(crate) const CHILD_RADIUS: u32 = 21;
 
+/// The radius of the ring around the middle of an edge at which a node follows.
+pub(crate) const EDGE_CHILD_RADIUS: u32 = 26;
+
+/// How many lanes lines are drawn in.
+pub(crate) const LANES: usize = 5;
+
+/// How far to the side each further lane is.
+pub(crate) const LANE_ACROSS: u32 = 6;
+
+/// How far up or down each further lane is.
+pub(crate) const LANE_DOWN: u32 = 3;
+
 /// The radius of the ring around a number beside a place.
-pub(crate) const BADGE_RADIUS: u32 = 10;
+pub(crate) const BADGE_RADIUS: u32 = 9;
 
 /// How far right of a place such a ring is.
-pub(crate) const BADGE_RIGHT: u32 = 15;
+pub(crate) const BADGE_RIGHT: u32 = 13;
 
 /// How far above a place such a ring is.
-pub(crate) const BADGE_UP: u32 = 14;
+pub(crate) const BADGE_UP: u32 = 13;
+
+/// The most blank boards of a sheet.
+pub const MAX_BOARDS: u32 = 100;
+
+/// The most columns of a sheet.
+pub(crate) const MAX_COLUMNS: u32 = 3;
 
 /// How far from the top of its picture the heading stands.
 pub(crate) const HEADING_DOWN: u32 = 28;
 
 /// How wide a letter of the heading is.
-pub(crate) const HEADING_LETTER: u32 = 11;
+pub(crate) const HEADING_LETTER: u32 = 10;
 
 /// How wide a letter of the legend is.
-pub(crate) const LEGEND_LETTER: u32 = 8;
+pub(crate) const LEGEND_LETTER: u32 = 7;
 
 /// How far from the left side of its picture the cross of a fault begins.
 pub(crate) const CROSS_LEFT: u32 = 6;
@@ -83,6 +107,9 @@ pub(crate) const MAX_CORNER_REACH: u32 = 4_400_000;
 
 /// The width of words is below this.
 pub(crate) const MAX_TEXT_WIDTH: u32 = 200_000;
+
+/// The width and the height of a board's picture are below this.
+pub(crate) const MAX_PICTURE_REACH: u32 = 4_500_000;
 
 /// The greatest width of a letter.
 pub(crate) const MAX_LETTER_WIDTH: u32 = 100;

@@ -1,6 +1,6 @@
 //! What paints are chosen for.
 ghost use Rattle.std.specs.Prelude.{◌≡◌};
-ghost use Rattle.pg_draw.specs.Shapes.{edge_paint, pair_paint, point_paint, set_paint};
+ghost use Rattle.pg_draw.specs.Shapes.{edge_paint, pair_paint, point_paint, set_paint, step_paint};
 
 use pg_base::Side;
 use pg_picture::Paint;
@@ -35,6 +35,17 @@ pub(crate) fn set_paint(set: Set) -> Paint
     match set {
         Set::First => Paint::First,
         Set::Second => Paint::Second,
+    }
+}
+
+/// The paint of the step of that number, from 1: attacks and forced replies take turns.
+pub(crate) fn step_paint(number: usize) -> Paint
+    ensures { result ≡ step_paint number }
+{
+    if number % 2 == 1 {
+        Paint::Step
+    } else {
+        Paint::Answer
     }
 }
 

@@ -25,8 +25,13 @@ use Rattle.pg_judge.proofs.ShortCerts.{fault_alike, member, there, valid_alike}
 use Rattle.pg_scene.specs.Items.{body_items, fault_items, line_items, numbered, pair_item}
 use Rattle.pg_scene.specs.Items.{pair_items, point_items}
 use Rattle.pg_scene.specs.Scenes.{AreNamed, IsSceneOf}
-use Rattle.pg_scene.specs.Words.{node_legend, node_title}
+use Rattle.pg_scene.specs.Legends.{body_lines, claim_line, fault_lines, node_by, node_legend}
+use Rattle.pg_scene.specs.Legends.{position_lines}
+use Rattle.pg_scene.specs.Words.{node_title}
 use Rattle.pg_scene.specs.declared.item.Item.{Item}
+use Rattle.pg_scene.specs.declared.look.Legend.{Legend}
+use Rattle.pg_scene.specs.declared.look.Legend.TheVariants.{Absent, OfBody, Whole}
+use Rattle.pg_scene.specs.declared.look.Look.{Look}
 use Rattle.pg_scene.specs.declared.scene.Scene.{Scene}
 use Rattle.pg_drawing.proofs.Common.{Bytes, Cert, Game, LacksNode}
 use Rattle.pg_drawing.specs.Due.{DrawsNode, IsCertDue}
@@ -96,8 +101,8 @@ module _ (g : Game) (p : Position) (side : Side) where
   items_short (bodies.Threat points) = refl
   items_short (bodies.Weaker child) = refl
 
-  legend_short : (body : Body)
-      → node_legend g p side (short_body body) ≡ node_legend g p side body
+  -- the lines of a legend that are said of a body
+  legend_short : (body : Body) → body_lines g p side (short_body body) ≡ body_lines g p side body
   legend_short (bodies.Pairs ps) = refl
   legend_short bodies.Over = refl
   legend_short (bodies.Move v child) = refl
@@ -113,41 +118,81 @@ module _ (g : Game) (p : Position) (side : Side) where
       → body_items g p side b ≡ body_items g p side d
   items_alike b d same = sym (items_short b) ∙ ap items_of same ∙ items_short d
 
-  legend_alike : (b d : Body)
+  lines_alike : (b d : Body)
       → short_body b ≡ short_body d
-      → node_legend g p side b ≡ node_legend g p side d
-  legend_alike b d same =
-      sym (legend_short b) ∙ ap (node_legend g p side) same ∙ legend_short d
+      → body_lines g p side b ≡ body_lines g p side d
+  lines_alike b d same = sym (legend_short b) ∙ ap (body_lines g p side) same ∙ legend_short d
 
 -- ---- scenes
 
-scene_alike : (g : Game) (w v : Claim) (k : ℕ) (n m : Node) (fault : Option ℕ) (scene : Scene)
+-- what is said of a claim but for its nodes
+abbrev claim_of : Claim → Claim
+claim_of w = record { turn = w.turn; side = w.side; goal = w.goal; nodes = [] }
+
+-- the lines of the body, if the legend says it, are the same
+by_alike : (legend : Legend) (look : Look) (g : Game) (w : Claim) (p : Position) (b d : Body)
+    (fault : Option ℕ)
+    → short_body b ≡ short_body d
+    → node_by legend look g w p b fault ≡ node_by legend look g w p d fault
+by_alike Absent look g w p b d fault same = refl
+by_alike OfBody look g w p b d fault same = lines_alike g p w.side b d same
+by_alike Whole look g w p b d fault same = ap (λ (lines : List (List ℕ)).
+    (claim_line g.kind w.turn w.side w.goal ∷ position_lines look g p ++ lines)
+    ++ fault_lines fault) (lines_alike g p w.side b d same)
+
+-- a legend says nothing of a claim's other nodes
+by_claim : (legend : Legend) (look : Look) (g : Game) (w : Claim) (p : Position) (b : Body)
+    (fault : Option ℕ)
+    → node_by legend look g (claim_of w) p b fault ≡ node_by legend look g w p b fault
+by_claim Absent look g w p b fault = refl
+by_claim OfBody look g w p b fault = refl
+by_claim Whole look g w p b fault = refl
+
+legend_alike : (look : Look) (g : Game) (w v : Claim) (n m : Node) (fault : Option ℕ)
     → short_claim w ≡ short_claim v
     → short_node n ≡ short_node m
-    → IsSceneOf g w k n fault scene
-    → IsSceneOf g v k m fault scene
-scene_alike g w v k n m fault scene same_claim same_node is =
-    let title : node_title w k fault ≡ node_title v k fault =
-    ap (λ (c : Claim). node_title c k fault) same_claim in
+    → node_legend look g w (position_of n) n.body fault
+    ≡ node_legend look g v (position_of m) m.body fault
+legend_alike look g w v n m fault same_claim same_node =
+    let position : position_of n ≡ position_of m = ap position_of same_node in
+    let body : short_body n.body ≡ short_body m.body = ap (λ (q : Node). q.body) same_node in
+    let claim : claim_of w ≡ claim_of v = ap claim_of same_claim in
+    ap (λ (p : Position). node_legend look g w p n.body fault) position
+    ∙ by_alike look.legend look g w (position_of m) n.body m.body fault body
+    ∙ sym (by_claim look.legend look g w (position_of m) m.body fault)
+    ∙ ap (λ (c : Claim). node_legend look g c (position_of m) m.body fault) claim
+    ∙ by_claim look.legend look g v (position_of m) m.body fault
+
+title_alike : (g : Game) (w v : Claim) (k : ℕ) (fault : Option ℕ)
+    → short_claim w ≡ short_claim v
+    → node_title g.kind w k fault ≡ node_title g.kind v k fault
+title_alike g w v k None same = ap (λ (c : Claim). node_title g.kind c k None) same
+title_alike g w v k (Some why) same = refl
+
+scene_alike : (look : Look) (g : Game) (w v : Claim) (k : ℕ) (n m : Node) (fault : Option ℕ)
+    (scene : Scene)
+    → short_claim w ≡ short_claim v
+    → short_node n ≡ short_node m
+    → IsSceneOf look g w k n fault scene
+    → IsSceneOf look g v k m fault scene
+scene_alike look g w v k n m fault scene same_claim same_node is =
     let side : w.side ≡ v.side = ap (λ (c : Claim). c.side) same_claim in
     let position : position_of n ≡ position_of m = ap position_of same_node in
     let body : short_body n.body ≡ short_body m.body = ap (λ (q : Node). q.body) same_node in
+    let lines = line_items look.lines (lines_of g) in
     record {
-      title = is.title ∙ title;
+      title = is.title ∙ title_alike g w v k fault same_claim;
       board = is.board;
       items = is.items
-          ∙ ap (λ (p : Position). point_items (point_count g) p ++ (line_items (lines_of g)
+          ∙ ap (λ (p : Position). point_items (point_count g) p ++ (lines
           ++ (body_items g p w.side n.body ++ fault_items fault))) position
           ∙ ap (λ (s : Side). point_items (point_count g) (position_of m)
-          ++ (line_items (lines_of g)
+          ++ (lines
           ++ (body_items g (position_of m) s n.body ++ fault_items fault))) side
           ∙ ap (λ (l : List Item). point_items (point_count g) (position_of m)
-          ++ (line_items (lines_of g) ++ (l ++ fault_items fault)))
+          ++ (lines ++ (l ++ fault_items fault)))
           (items_alike g (position_of m) v.side n.body m.body body);
-      legend = is.legend
-          ∙ ap (λ (p : Position). node_legend g p w.side n.body) position
-          ∙ ap (λ (s : Side). node_legend g (position_of m) s n.body) side
-          ∙ legend_alike g (position_of m) v.side n.body m.body body;
+      legend = is.legend ∙ legend_alike look g w v n m fault same_claim same_node;
     }
 
 -- ---- nodes of certificates that are the same when they are cut short
@@ -195,15 +240,15 @@ last_alike (x ∷ xs) (y ∷ ys) e =
     ∙ ap (λ (c : Claim). length c.nodes) first
     ∙ length-map y.nodes short_node)
 
-module _ (g : Game) (c d : Cert) (same : short_cert c ≡ short_cert d) where
+module _ (look : Look) (g : Game) (c d : Cert) (same : short_cert c ≡ short_cert d) where
   pub chosen_alike : (name : Option NodeName) → chosen d name ≡ chosen c name
   chosen_alike (Some name) = refl
   chosen_alike None =
       ap (node_of 0) (last_alike d.claims c.claims (sym (ap (λ (e : Cert). e.claims) same)))
 
   drawn_alike : (claim node : ℕ) (fault : Option ℕ) (text : Bytes)
-      → DrawsNode g d claim node fault text
-      → DrawsNode g c claim node fault text
+      → DrawsNode look g d claim node fault text
+      → DrawsNode look g c claim node fault text
   drawn_alike claim node fault text h =
       let was = h.shown in
       let now = named_alike c d same claim node was.whole was.node was.named in
@@ -213,7 +258,7 @@ module _ (g : Game) (c d : Cert) (same : short_cert c ≡ short_cert d) where
           whole = now.whole;
           node = now.node;
           named = now.named;
-          shown = scene_alike g was.whole now.whole node was.node now.node fault h.scene
+          shown = scene_alike look g was.whole now.whole node was.node now.node fault h.scene
               (sym now.same_claim) (sym now.same_node) was.shown;
         };
         text_is = h.text_is;
@@ -225,8 +270,8 @@ module _ (g : Game) (c d : Cert) (same : short_cert c ≡ short_cert d) where
       h there.whole there.node there.named
 
   pub due_alike : (name : NodeName) (text : Bytes) (status : ℕ)
-      → IsCertDue g d name text status
-      → IsCertDue g c name text status
+      → IsCertDue look g d name text status
+      → IsCertDue look g c name text status
   due_alike name text status (inl (valid, inl (drawn, is))) = inl (
     valid_alike g c d same valid,
     inl (drawn_alike name.claim name.node None text drawn, is),

@@ -1,9 +1,11 @@
 -- What the proofs of this crate name of the crates below.
 pub use Rattle.pg_drawing.specs.Prelude.{Bytes, Cert, Certificate, ConsoleTold, Contains, DONE}
-pub use Rattle.pg_drawing.specs.Prelude.{FileError, Game, Halt, Holding, IsReadAs, LacksNode}
-pub use Rattle.pg_drawing.specs.Prelude.{Memory, NO_MEANING, NoClaim, NoMeaning, Opens}
-pub use Rattle.pg_drawing.specs.Prelude.{OpensSpanCert, REFUSED, Read, Record, Refused, Rejected}
-pub use Rattle.pg_drawing.specs.Prelude.{RejectedImage, RejectedSpan, RejectedVectors, Size}
-pub use Rattle.pg_drawing.specs.Prelude.{SpanCert, SpanGame, Stopped, WRITE_FAILED, Write}
-pub use Rattle.pg_drawing.specs.Prelude.{certificate_held, entry, game_fault, held_as}
-pub use Rattle.pg_drawing.specs.Prelude.{refusal_status, span_entry, stop_status}
+pub use Rattle.pg_drawing.specs.Prelude.{Evidence, FileError, Game, Halt, HaltCauses, Holding}
+pub use Rattle.pg_drawing.specs.Prelude.{IsInnerHalt, IsReadAs, IsReadHalt, LacksNode}
+pub use Rattle.pg_drawing.specs.Prelude.{MakesStanding, Memory, NO_MEANING, NoClaim, NoMeaning}
+pub use Rattle.pg_drawing.specs.Prelude.{Opens, OpensEvidence, OpensSpanCert, REFUSED, Read, Record}
+pub use Rattle.pg_drawing.specs.Prelude.{Refused, Rejected, RejectedImage, RejectedSpan}
+pub use Rattle.pg_drawing.specs.Prelude.{RejectedVectors, Size, SpanCert, SpanGame, Stopped}
+pub use Rattle.pg_drawing.specs.Prelude.{WRITE_FAILED, Write, certificate_held, entry}
+pub use Rattle.pg_drawing.specs.Prelude.{evidence_held, game_fault, held_as, refusal_status}
+pub use Rattle.pg_drawing.specs.Prelude.{span_entry, stop_status}

@@ -1,12 +1,15 @@
 -- What is due, from what was read.
-use Rattle.std.proofs.Common.{◌≡◌, Option, Some, None, Result, Ok, refl, sym, subst, string_bytes}
-use Rattle.pg_drawing.proofs.Common.{Bytes, Holding, Game, entry, Cert, SpanCert, SpanGame}
-use Rattle.pg_drawing.proofs.Common.{span_entry, DONE, Halt, OpensSpanCert}
-use Rattle.pg_drawing.specs.Boards.{board_entry, connectivity_pair, positional_pair}
-use Rattle.pg_drawing.specs.Boards.{with_certificate}
+use Rattle.std.proofs.Common.{◌≡◌, true, Option, Some, None, Result, Ok, Err, refl, sym}
+use Rattle.std.proofs.Common.{subst, inl, inr, string_bytes, true≢false}
+use Rattle.pg_drawing.proofs.Common.{Bytes, Cert, DONE, Evidence, Game, Halt, Holding}
+use Rattle.pg_drawing.proofs.Common.{MakesStanding, OpensEvidence, OpensSpanCert, Refused, SpanCert}
+use Rattle.pg_drawing.proofs.Common.{SpanGame, Stopped, entry, evidence_held, span_entry}
+use Rattle.pg_scene.specs.declared.look.Look.{Look}
+use Rattle.pg_drawing.specs.Boards.{begins_otherwise, board_entry, connectivity_pair, plain_or}
+use Rattle.pg_drawing.specs.Boards.{positional_pair, with_certificate}
 use Rattle.pg_drawing.specs.Boards.BoardEntry.{Positional, Connectivity}
 use Rattle.pg_drawing.specs.Due.{DrawsGame, DrawsSpanGame, Finds, IsCertDue, IsDueOfBoth}
-use Rattle.pg_drawing.specs.Due.{IsDueOfGame, IsSpanCertDue}
+use Rattle.pg_drawing.specs.Due.{IsDueOfGame, IsEvidenceDue, IsFormDue, IsFound, IsSpanCertDue}
 use Rattle.pg_drawing.specs.Incoming.{OpensAlike}
 use Rattle.pg_drawing.specs.Orders.{chosen, chosen_claim}
 use Rattle.pg_drawing.specs.declared.board.Board.{Board}
@@ -17,48 +20,104 @@ use Rattle.pg_drawing.proofs.Alike.{chosen_alike, due_alike}
 
 -- ---- a game
 
-module _ (b : Board) (text : Bytes) where
+module _ (look : Look) (b : Board) (text : Bytes) where
   pub positional_drawn : (g : Game)
       → b ≡ boards.Positional g
-      → DrawsGame g text
-      → IsDueOfGame (Ok (board_entry b)) text DONE
-  positional_drawn g is draws = subst (λ (b : Board). IsDueOfGame (Ok (board_entry b)) text DONE)
-      (sym is) (g, refl, draws, refl)
+      → DrawsGame look g text
+      → IsDueOfGame look (Ok (board_entry b)) text DONE
+  positional_drawn g is draws =
+      subst (λ (b : Board). IsDueOfGame look (Ok (board_entry b)) text DONE) (sym is)
+      (g, refl, draws, refl)
 
   pub connectivity_drawn : (g : SpanGame)
       → b ≡ boards.Connectivity g
-      → DrawsSpanGame g text
-      → IsDueOfGame (Ok (board_entry b)) text DONE
-  connectivity_drawn g is draws = subst (λ (b : Board). IsDueOfGame (Ok (board_entry b)) text DONE)
-      (sym is) (g, refl, draws, refl)
+      → DrawsSpanGame look g text
+      → IsDueOfGame look (Ok (board_entry b)) text DONE
+  connectivity_drawn g is draws =
+      subst (λ (b : Board). IsDueOfGame look (Ok (board_entry b)) text DONE) (sym is)
+      (g, refl, draws, refl)
 
--- ---- a certificate
+-- ---- a certificate that was read
 
-module _ (certificate : Bytes) (name : Option NodeName) where
+-- it stands for none
+pub unmade_due : (look : Look) (g : Game) (e : Evidence) (name : Option NodeName) (halt : Halt)
+    → MakesStanding g e (Err halt)
+    → IsFound (IsEvidenceDue look g e name) (Err halt)
+unmade_due look g e name (Refused refusal) rejects = inr (record {
+  refusal = refusal;
+  rejects = rejects;
+  text_is = refl;
+  status_is = refl;
+})
+unmade_due look g e name (Stopped stop) made = tt
+
+-- ---- a certificate under a name
+
+module _ (look : Look) (certificate : Bytes) (name : Option NodeName) where
+  -- one in either form
+  pub form_drawn : (h : Option Holding) (g : Game) (e : Evidence)
+      → OpensEvidence h certificate (Ok e)
+      → (r : Result Telling Halt) → IsFound (IsEvidenceDue look g e name) r
+      → Finds h (λ held. IsFormDue look g name (evidence_held (held certificate))) r
+  form_drawn None g e opens r due = tt
+  form_drawn (Some held) g e opens r due =
+      subst (λ (read : Result Evidence Halt). IsFound (IsFormDue look g name read) r) (sym opens)
+      due
+
+  -- one of plain nodes
   pub node_drawn : (h : Option Holding) (g : Game) (c : Cert) (told : Telling)
       → OpensAlike h certificate (Ok c)
-      → IsCertDue g c (chosen c name) (string_bytes told.words) told.status
+      → IsCertDue look g c (chosen c name) (string_bytes told.words) told.status
       → Finds h
-      (λ held. IsDueOfBoth name (with_certificate (Ok (Positional (entry g))) (held certificate)))
+      (λ held. IsDueOfBoth look name
+      (with_certificate (Ok (Positional (entry g))) (held certificate)))
       (Ok told)
   node_drawn None g c told opens due = tt
   node_drawn (Some held) g c told opens due =
-      let whole = subst
-      (λ (n : NodeName). IsCertDue g opens.whole n (string_bytes told.words) told.status)
-      (chosen_alike g opens.whole c opens.same name)
-      (due_alike g opens.whole c opens.same (chosen c name) (string_bytes told.words) told.status
-      due) in
+      let whole =
+      subst (λ (n : NodeName). IsCertDue look g opens.whole n (string_bytes told.words) told.status)
+      (chosen_alike look g opens.whole c opens.same name)
+      (due_alike look g opens.whole c opens.same (chosen c name)
+      (string_bytes told.words) told.status due) in
       subst
-      (λ (r : Result Cert Halt). IsDueOfBoth name (positional_pair (entry g) r)
-      (string_bytes told.words) told.status) (sym opens.held) (g, refl, whole)
+      (λ (r : Result Cert Halt). IsDueOfBoth look name
+      (positional_pair (entry g) (plain_or r (evidence_held (held certificate))))
+      (string_bytes told.words) told.status) (sym opens.held)
+      (g, refl, inl (record { cert = opens.whole; stands = refl; due = whole }))
+
+  form_due : (g : Game) (read : Result Evidence Halt) (r : Result Telling Halt)
+      → IsFound (IsFormDue look g name read) r
+      → IsFound (IsDueOfBoth look name (positional_pair (entry g) read)) r
+  form_due g (Err halt) r due = due
+  form_due g (Ok e) (Ok told) due = (g, refl, due)
+  form_due g (Ok e) (Err (Refused refusal)) due = (g, refl, due)
+  form_due g (Ok e) (Err (Stopped stop)) due = tt
+
+  -- one that doesn't begin as one of plain nodes
+  pub other_drawn : (h : Option Holding) (g : Game) (halt : Halt)
+      → OpensAlike h certificate (Err halt)
+      → begins_otherwise halt ≡ true
+      → (r : Result Telling Halt)
+      → Finds h (λ held. IsFormDue look g name (evidence_held (held certificate))) r
+      → Finds h
+      (λ held. IsDueOfBoth look name
+      (with_certificate (Ok (Positional (entry g))) (held certificate)))
+      r
+  other_drawn None g halt opens is r due = tt
+  other_drawn (Some held) g (Refused refusal) opens is r due =
+      let either = evidence_held (held certificate) in
+      subst (λ (read : Result Cert Halt). IsFound (IsDueOfBoth look name
+      (positional_pair (entry g) (plain_or read either))) r) (sym opens)
+      (rw is (form_due g either r due))
+  other_drawn (Some held) g (Stopped stop) opens is r due = absurd (true≢false (sym is))
 
   pub claim_drawn : (h : Option Holding) (g : SpanGame) (c : SpanCert) (told : Telling)
       → OpensSpanCert h certificate (Ok c)
-      → IsSpanCertDue g c (chosen_claim name) (string_bytes told.words) told.status
+      → IsSpanCertDue look g c (chosen_claim name) (string_bytes told.words) told.status
       → Finds h
-      (λ held. IsDueOfBoth name
+      (λ held. IsDueOfBoth look name
       (with_certificate (Ok (Connectivity (span_entry g))) (held certificate))) (Ok told)
   claim_drawn None g c told opens due = tt
   claim_drawn (Some held) g c told opens due = subst
-      (λ (r : Result SpanCert Halt). IsDueOfBoth name (connectivity_pair (span_entry g) r)
+      (λ (r : Result SpanCert Halt). IsDueOfBoth look name (connectivity_pair (span_entry g) r)
       (string_bytes told.words) told.status) (sym opens) (g, refl, due)

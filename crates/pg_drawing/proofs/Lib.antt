@@ -2,5 +2,6 @@ mod Common
 pub mod Openings
 pub mod Coming
 pub mod Alike
+pub mod Causes
 pub mod Found
 pub mod Endings

@@ -2,6 +2,11 @@
 pub use Rattle.pg_cert.specs.Limits.{IsWithinLimits}
 pub use Rattle.pg_cert.specs.Valid.{IsFirstFault, IsValid}
 pub use Rattle.pg_cert.specs.declared.cert.Cert.{Cert}
+pub use Rattle.pg_evidence.specs.Evidence.{IsInnerHalt, IsWithinItsLimits, OpensEvidence}
+pub use Rattle.pg_evidence.specs.Evidence.{evidence_held}
+pub use Rattle.pg_evidence.specs.Standing.{IsTraced, MakesStanding, RejectsImages, StandsFor}
+pub use Rattle.pg_evidence.specs.declared.evidence.Evidence.{Evidence}
+pub use Rattle.pg_evidence.specs.declared.standing.Standing.{Standing}
 pub use Rattle.pg_families.specs.Connectivity.{OpensSpanCert, span_cert_held, span_held}
 pub use Rattle.pg_family_files.specs.Views.{span_entry}
 pub use Rattle.pg_files.specs.Views.{entry, number_of}
@@ -11,6 +16,7 @@ pub use Rattle.pg_io.specs.Console.{ConsoleTold, Grows}
 pub use Rattle.pg_io.specs.Files.{Bytes, Holding, IsAbsent, ReadsOnly}
 pub use Rattle.pg_io.specs.declared.stop.Stop.TheVariants.{Memory, Read, Write}
 pub use Rattle.pg_messages.specs.Statuses.{refusal_status}
+pub use Rattle.pg_messages.specs.declared.refusal.Refusal.{Refusal}
 pub use Rattle.pg_messages.specs.declared.refusal.Refusal.TheVariants.{Certificate, NoClaim}
 pub use Rattle.pg_messages.specs.declared.refusal.Refusal.TheVariants.{NoMeaning, Record, Rejected}
 pub use Rattle.pg_messages.specs.declared.refusal.Refusal.TheVariants.{RejectedImage, RejectedSpan}
@@ -24,8 +30,8 @@ pub use Rattle.pg_span.specs.declared.cert.SpanCert.{SpanCert}
 pub use Rattle.pg_span.specs.declared.game.SpanGame.{SpanGame}
 pub use Rattle.pg_talk.specs.Halts.{HaltCauses, HasCause, IsGameHalt, IsReadHalt, stop_status}
 pub use Rattle.pg_talk.specs.Opening.{IsSaidBy, game_held}
-pub use Rattle.pg_talk.specs.Reading.{IsLackingOne, IsLackingTwo, IsReadAs, Opens, certificate_held}
-pub use Rattle.pg_talk.specs.Reading.{game_fault, held_as}
+pub use Rattle.pg_talk.specs.Reading.{IsLackingOne, IsLackingTwo, IsReadAs, Opens}
+pub use Rattle.pg_talk.specs.Reading.{certificate_held, game_fault, held_as}
 pub use Rattle.pg_talk.specs.declared.halt.Halt.{Halt}
 pub use Rattle.pg_talk.specs.declared.halt.Halt.TheVariants.{Refused, Stopped}
 pub use Rattle.pg_text.specs.declared.error.FileError.{FileError}

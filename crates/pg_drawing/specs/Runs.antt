@@ -7,6 +7,7 @@ use Rattle.pg_drawing.specs.Prelude.{NO_MEMORY, IsGameHalt, IsReadHalt, IsLackin
 use Rattle.pg_drawing.specs.Prelude.{Halt, Refused}
 use Rattle.pg_io.specs.Causes.{Rose}
 use Rattle.pg_io.specs.declared.entry.Entry.TheVariants.{Said}
+use Rattle.pg_scene.specs.declared.look.Look.{Look}
 use Rattle.pg_drawing.specs.Boards.{board_held, both_held}
 use Rattle.pg_drawing.specs.Due.{IsDue}
 use Rattle.pg_drawing.specs.Orders.{Order}
@@ -29,10 +30,10 @@ statuses_of (Some (OfNode game certificate name)) =
 -- ---- what was said
 
 -- what is due was said at once, and nothing else
-pub record SaysDue (order : Option Order) (held : Holding) (before after : ConsoleTold)
-    (status : ℕ) : Type 0 where
+pub record SaysDue (look : Look) (order : Option Order) (held : Holding)
+    (before after : ConsoleTold) (status : ℕ) : Type 0 where
   pub text : Bytes
-  pub due : IsDue order held text status
+  pub due : IsDue look order held text status
   pub said : Grows before.log after.log (Said text ∷ [])
 
 -- a call has failed or memory was wanting, and nothing was said
@@ -41,9 +42,9 @@ pub record SaysNothing (before after : ConsoleTold) (status : ℕ) : Type 0 wher
   pub quiet : Grows before.log after.log []
 
 -- a run, where it is told what the names hold
-abbrev pub Ran : Option Order → Option Holding → ConsoleTold → ConsoleTold → ℕ → Type 0
-Ran order told before after status =
-    IfSome told (λ held. SaysDue order held before after status ⊎ SaysNothing before after status)
+abbrev pub Ran : Look → Option Order → Option Holding → ConsoleTold → ConsoleTold → ℕ → Type 0
+Ran look order told before after status = IfSome told
+    (λ held. SaysDue look order held before after status ⊎ SaysNothing before after status)
 
 -- ---- causes
 

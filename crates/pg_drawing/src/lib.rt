@@ -8,6 +8,7 @@ mod name;
 mod opening;
 mod picturing;
 mod running;
+mod standing;
 mod telling;
 
 pub use board::Board;

@@ -4,12 +4,12 @@ ghost use Rattle.pg_drawing.specs.Prelude.{IsAbsent, IsWithinLimits, ReadsOnly, 
 ghost use Rattle.pg_drawing.specs.Prelude.{IsGameHalt, IsReadHalt, Opens, span_held};
 ghost use Rattle.pg_drawing.specs.Incoming.{OpensAlike};
 ghost use Rattle.pg_drawing.specs.Boards.{IsBoardRead, as_connectivity, board_entry, board_held};
-ghost use Rattle.pg_drawing.specs.Boards.{is_other_kind};
+ghost use Rattle.pg_drawing.specs.Boards.{begins_otherwise, is_other_kind};
 
 use crate::board::Board;
 use crate::incoming::Incoming;
 use pg_cert::Cert;
-use pg_cert_files::{CertFault, MAX_CERT_BYTES};
+use pg_cert_files::{CertFault, Fault as FormFault, MAX_CERT_BYTES};
 use pg_family_files::read_span;
 use pg_files::{Fault, MAX_GAME_BYTES, read_game};
 use pg_io::{Files, Stop, pour, read_whole};
@@ -66,6 +66,16 @@ pub fn open_board<F: Files>(alloc: Global, files: &mut F, name: &str) -> Result<
         Ok(board) => Ok(board),
         Err(FileError::Bad { number, line }) => Err(Halt::Refused(Refusal::Game { number, line })),
         Err(FileError::Memory) => Err(Halt::Stopped(Stop::Memory)),
+    }
+}
+
+/// Whether a file doesn't begin as a certificate of plain nodes.
+pub(crate) fn begins_otherwise(halt: &Halt) -> bool
+    ensures { result ≡ begins_otherwise halt.now }
+{
+    match halt {
+        Halt::Refused(Refusal::Certificate { number, .. }) => *number == FormFault::Header.number(),
+        _ => false,
     }
 }
 

@@ -13,7 +13,7 @@ use pg_check::{CheckFault, check};
 use pg_game::Game;
 use pg_messages::{DONE, NO_MEANING, REFUSED};
 use pg_picture::print_picture;
-use pg_scene::{Scene, scene_of_game, scene_of_node, scenes_can_be_laid_out};
+use pg_scene::{Look, Scene, scene_of_game, scene_of_node, scenes_can_be_laid_out};
 use std::alloc::Global;
 
 /// What is said where the certificate has no such node.
@@ -29,11 +29,11 @@ pub struct Telling {
 }
 
 /// The text of the picture of a scene.
-pub(crate) fn text_of(alloc: Global, scene: &Scene) -> Result<String, Memory>
+pub(crate) fn text_of(alloc: Global, look: Look, scene: &Scene) -> Result<String, Memory>
     requires { IsScene scene.now }
-    ensures { IfOk result (λ text. string_bytes text ≡ scene_text scene.now) }
+    ensures { IfOk result (λ text. string_bytes text ≡ scene_text look scene.now) }
 {
-    let picture = pg_draw::draw(alloc, scene)?;
+    let picture = pg_draw::draw(alloc, scene, look)?;
     Ok(print_picture(alloc, &picture)?)
 }
 
@@ -48,30 +48,32 @@ pub(crate) fn no_node(alloc: Global) -> Result<Telling, Memory>
 }
 
 /// The text of the picture of a game.
-pub(crate) fn game_text(alloc: Global, game: &Game) -> Result<String, Memory>
-    ensures { IfOk result (λ text. DrawsGame game.now (string_bytes text)) }
+pub(crate) fn game_text(alloc: Global, look: Look, game: &Game) -> Result<String, Memory>
+    ensures { IfOk result (λ text. DrawsGame look game.now (string_bytes text)) }
 {
     scenes_can_be_laid_out();
-    let scene = scene_of_game(alloc, game)?;
-    Ok(text_of(alloc, &scene)?)
+    let scene = scene_of_game(alloc, game, look)?;
+    Ok(text_of(alloc, look, &scene)?)
 }
 
 /// The text of the picture of a node with its fault, and None exactly where the certificate has no
 /// such node.
 fn node_text(
     alloc: Global,
+    look: Look,
     game: &Game,
     cert: &Cert,
     name: NodeName,
     fault: Option<u8>,
 ) -> Result<Option<String>, Memory>
     ensures drawn { IfOk result (λ found. IfSome found
-        (λ text. DrawsNode game.now cert.now name.claim name.node fault (string_bytes text))) }
+        (λ text. DrawsNode look game.now cert.now name.claim name.node fault
+        (string_bytes text))) }
     ensures none { IfOk result (λ found. IfNone found (LacksNode cert.now name.claim name.node)) }
 {
     scenes_can_be_laid_out();
-    match scene_of_node(alloc, game, cert, name.claim, name.node, fault)? {
-        Some(scene) => Ok(Some(text_of(alloc, &scene)?)),
+    match scene_of_node(alloc, game, cert, name.claim, name.node, fault, look)? {
+        Some(scene) => Ok(Some(text_of(alloc, look, &scene)?)),
         None => Ok(None),
     }
 }
@@ -79,6 +81,7 @@ fn node_text(
 /// The picture of the first faulty node.
 fn faulty(
     alloc: Global,
+    look: Look,
     game: &Game,
     cert: &Cert,
     name: NodeName,
@@ -86,9 +89,9 @@ fn faulty(
 ) -> Result<Telling, Memory>
     requires { IsFirstFault game.now cert.now name.claim name.node why }
     ensures { IfOk result
-        (λ told. IsFaultDue game.now cert.now (string_bytes told.words) told.status) }
+        (λ told. IsFaultDue look game.now cert.now (string_bytes told.words) told.status) }
 {
-    let Some(words) = node_text(alloc, game, cert, name, Some(why))? else {
+    let Some(words) = node_text(alloc, look, game, cert, name, Some(why))? else {
         unreachable!();
     };
     Ok(Telling {
@@ -98,11 +101,17 @@ fn faulty(
 }
 
 /// The picture of a node of a valid certificate, or that there is no such node.
-fn sound(alloc: Global, game: &Game, cert: &Cert, name: NodeName) -> Result<Telling, Memory>
+fn sound(
+    alloc: Global,
+    look: Look,
+    game: &Game,
+    cert: &Cert,
+    name: NodeName,
+) -> Result<Telling, Memory>
     ensures { IfOk result
-        (λ told. IsNodeDue game.now cert.now name (string_bytes told.words) told.status) }
+        (λ told. IsNodeDue look game.now cert.now name (string_bytes told.words) told.status) }
 {
-    match node_text(alloc, game, cert, name, None)? {
+    match node_text(alloc, look, game, cert, name, None)? {
         Some(words) => Ok(Telling {
             words,
             status: DONE,
@@ -115,18 +124,19 @@ fn sound(alloc: Global, game: &Game, cert: &Cert, name: NodeName) -> Result<Tell
 /// isn't valid.
 pub(crate) fn tell_certificate(
     alloc: Global,
+    look: Look,
     game: &Game,
     cert: &Cert,
     name: Option<NodeName>,
 ) -> Result<Telling, Memory>
     requires { IsWithinLimits cert.now }
-    ensures { IfOk result (λ told. IsCertDue game.now cert.now (chosen cert.now name)
+    ensures { IfOk result (λ told. IsCertDue look game.now cert.now (chosen cert.now name)
         (string_bytes told.words) told.status) }
 {
     match check(alloc, game, cert) {
-        Ok(_) => sound(alloc, game, cert, chosen(cert, name)),
+        Ok(_) => sound(alloc, look, game, cert, chosen(cert, name)),
         Err(CheckFault::Reject { claim, node, why }) => {
-            faulty(alloc, game, cert, NodeName { claim, node }, why)
+            faulty(alloc, look, game, cert, NodeName { claim, node }, why)
         }
         Err(CheckFault::Memory) => Err(Memory),
     }

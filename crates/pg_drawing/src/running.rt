@@ -7,6 +7,7 @@ ghost use Rattle.pg_drawing.specs.Runs.{EndsWith, IsLacking, IsStopped, Ran, sta
 use crate::telling::tell;
 use pg_io::{Console, Files, Stop};
 use pg_messages::{NO_MEMORY, READ_FAILED, WRITE_FAILED};
+use pg_scene::Look;
 use pg_talk::{Halt, say_text};
 use std::alloc::Global;
 
@@ -25,7 +26,8 @@ pub fn end_with<C: Console>(console: &mut C, text: &str, status: u8) -> u8
 /// `GAME CERTIFICATE` draws the root of the certificate's first claim, `GAME CERTIFICATE K` node K
 /// of that claim, and `GAME CERTIFICATE C.K` node K of claim C, all counted from 0. A claim of a
 /// connectivity game has one node, number 0. The certificate is checked first: where it isn't valid
-/// its first faulty node is drawn, with the fault.
+/// its first faulty node is drawn, with the fault. `look` says whether the picture has numbers,
+/// lines and a legend, and at what width it is shown.
 ///
 /// - 0: the picture is said: of a game, or of a node of a valid certificate.
 /// - 2: the words have no meaning, or the certificate is valid and has no such node.
@@ -43,10 +45,11 @@ pub fn end_with<C: Console>(console: &mut C, text: &str, status: u8) -> u8
 pub fn draw<F: Files, C: Console>(
     alloc: Global,
     words: &[String],
+    look: Look,
     files: &mut F,
     console: &mut C,
 ) -> u8
-    ensures ran { Ran (order_of (map string_bytes words.now)) (F.told files.old).held
+    ensures ran { Ran look (order_of (map string_bytes words.now)) (F.told files.old).held
         (C.told console.old) (C.told console.new) result }
     ensures silent { IsStopped result → Grows (C.told console.old).log (C.told console.new).log [] }
     ensures statuses { Contains (statuses_of (order_of (map string_bytes words.now))) result }
@@ -56,7 +59,7 @@ pub fn draw<F: Files, C: Console>(
         (IsLacking (F.told files.old).held (order_of (map string_bytes words.now)))
         (F.told files.old) (F.told files.new) (C.told console.old) (C.told console.new) result }
 {
-    match tell(alloc, words, files) {
+    match tell(alloc, words, look, files) {
         Ok(told) => end_with(console, told.words.as_str(), told.status),
         Err(Halt::Refused(refusal)) => {
             end_with(console, refusal.text().as_str(), refusal.status())

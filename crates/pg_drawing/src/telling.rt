@@ -2,42 +2,50 @@
 ghost use Rattle.std.specs.Prelude.{◌≡◌, Some, Ok, IfErr, IfOk, map, string_bytes};
 ghost use Rattle.pg_drawing.specs.Prelude.{IsAbsent, ReadsOnly, entry, span_entry, HaltCauses};
 ghost use Rattle.pg_drawing.specs.Prelude.{IsGameHalt, IsReadHalt, IsLackingOne, IsLackingTwo};
-ghost use Rattle.pg_drawing.specs.Prelude.{DONE};
+ghost use Rattle.pg_drawing.specs.Prelude.{DONE, evidence_held};
 ghost use Rattle.pg_drawing.specs.Boards.{board_entry, board_held, both_held, with_certificate};
 ghost use Rattle.pg_drawing.specs.Boards.BoardEntry.{Positional, Connectivity};
-ghost use Rattle.pg_drawing.specs.Due.{Finds, IsDue, IsDueOfBoth, IsDueOfGame};
+ghost use Rattle.pg_drawing.specs.Due.{Finds, IsDue, IsDueOfBoth, IsDueOfGame, IsFormDue};
 ghost use Rattle.pg_drawing.specs.Orders.{order_of};
 ghost use Rattle.pg_drawing.specs.Runs.{Gives, IsCertEnd, IsLacking};
 
 use crate::board::Board;
 use crate::claims::{span_game_text, tell_span_certificate};
 use crate::name::{NodeName, node_named};
-use crate::opening::{open_board, open_certificate};
+use crate::opening::{begins_otherwise, open_board, open_certificate};
 use crate::picturing::{Telling, game_text, tell_certificate};
+use crate::standing::tell_evidence;
 use pg_base::Memory;
+use pg_evidence::open_evidence;
 use pg_families::open_span_cert;
 use pg_game::Game;
 use pg_io::Files;
 use pg_messages::{DONE, Refusal};
+use pg_scene::Look;
 use pg_span::SpanGame;
 use pg_talk::Halt;
 use std::alloc::Global;
 
 /// The text of the picture of a game.
-fn board_text(alloc: Global, board: &Board) -> Result<String, Memory>
+fn board_text(alloc: Global, look: Look, board: &Board) -> Result<String, Memory>
     ensures { IfOk result
-        (λ text. IsDueOfGame (Ok (board_entry board.now)) (string_bytes text) DONE) }
+        (λ text. IsDueOfGame look (Ok (board_entry board.now)) (string_bytes text) DONE) }
 {
     match board {
-        Board::Positional(game) => game_text(alloc, game),
-        Board::Connectivity(game) => span_game_text(alloc, game),
+        Board::Positional(game) => game_text(alloc, look, game),
+        Board::Connectivity(game) => span_game_text(alloc, look, game),
     }
 }
 
 /// The picture of the game under a name.
-fn tell_game<F: Files>(alloc: Global, files: &mut F, game: &str) -> Result<Telling, Halt>
+fn tell_game<F: Files>(
+    alloc: Global,
+    look: Look,
+    files: &mut F,
+    game: &str,
+) -> Result<Telling, Halt>
     ensures found { Finds (F.told files.old).held
-        (λ held. IsDueOfGame (board_held (held game.now))) result }
+        (λ held. IsDueOfGame look (board_held (held game.now))) result }
     ensures done { IfOk result (λ told. told.status ≡ DONE) }
     ensures halts { IfErr result IsGameHalt }
     ensures causes { HaltCauses (IsLackingOne board_held (F.told files.old).held game.now)
@@ -45,23 +53,46 @@ fn tell_game<F: Files>(alloc: Global, files: &mut F, game: &str) -> Result<Telli
     ensures kept { ReadsOnly (F.told files.old) (F.told files.new) }
 {
     let board = open_board(alloc, files, game)?;
-    let words = board_text(alloc, &board)?;
+    let words = board_text(alloc, look, &board)?;
     Ok(Telling {
         words,
         status: DONE,
     })
 }
 
-/// The picture of a node of the certificate under a name for a game on lines or a switching game.
-fn tell_node_of<F: Files>(
+/// The picture of a node of the certificate under a name in either form.
+fn tell_node_in<F: Files>(
     alloc: Global,
+    look: Look,
     files: &mut F,
     game: &Game,
     certificate: &str,
     name: Option<NodeName>,
 ) -> Result<Telling, Halt>
     ensures found { Finds (F.told files.old).held
-        (λ held. IsDueOfBoth name
+        (λ held. IsFormDue look game.now name (evidence_held (held certificate.now))) result }
+    ensures done { IfOk result (λ told. IsCertEnd told.status) }
+    ensures halts { IfErr result IsReadHalt }
+    ensures causes { HaltCauses (IsAbsent (F.told files.old).held certificate.now)
+        (F.told files.old).faults (F.told files.new).faults result }
+    ensures kept { ReadsOnly (F.told files.old) (F.told files.new) }
+{
+    let evidence = open_evidence(alloc, files, certificate)?;
+    tell_evidence(alloc, look, game, evidence, name)
+}
+
+/// The picture of a node of the certificate under a name for a game on lines or a switching game.
+/// It is read as one of plain nodes, and once more in either form where it doesn't begin as that.
+fn tell_node_of<F: Files>(
+    alloc: Global,
+    look: Look,
+    files: &mut F,
+    game: &Game,
+    certificate: &str,
+    name: Option<NodeName>,
+) -> Result<Telling, Halt>
+    ensures found { Finds (F.told files.old).held
+        (λ held. IsDueOfBoth look name
         (with_certificate (Ok (Positional (entry game.now))) (held certificate.now))) result }
     ensures done { IfOk result (λ told. IsCertEnd told.status) }
     ensures halts { IfErr result IsReadHalt }
@@ -69,20 +100,28 @@ fn tell_node_of<F: Files>(
         (F.told files.old).faults (F.told files.new).faults result }
     ensures kept { ReadsOnly (F.told files.old) (F.told files.new) }
 {
-    let cert = open_certificate(alloc, files, certificate)?;
-    Ok(tell_certificate(alloc, game, &cert, name)?)
+    match open_certificate(alloc, files, certificate) {
+        Ok(cert) => Ok(tell_certificate(alloc, look, game, &cert, name)?),
+        Err(halt) => {
+            if begins_otherwise(&halt) {
+                return tell_node_in(alloc, look, files, game, certificate, name);
+            }
+            Err(halt)
+        }
+    }
 }
 
 /// The picture of a claim of the certificate under a name for a connectivity game.
 fn tell_claim_of<F: Files>(
     alloc: Global,
+    look: Look,
     files: &mut F,
     game: &SpanGame,
     certificate: &str,
     name: Option<NodeName>,
 ) -> Result<Telling, Halt>
     ensures found { Finds (F.told files.old).held
-        (λ held. IsDueOfBoth name
+        (λ held. IsDueOfBoth look name
         (with_certificate (Ok (Connectivity (span_entry game.now))) (held certificate.now)))
         result }
     ensures done { IfOk result (λ told. IsCertEnd told.status) }
@@ -92,20 +131,21 @@ fn tell_claim_of<F: Files>(
     ensures kept { ReadsOnly (F.told files.old) (F.told files.new) }
 {
     let cert = open_span_cert(alloc, files, certificate)?;
-    Ok(tell_span_certificate(alloc, game, &cert, name)?)
+    Ok(tell_span_certificate(alloc, look, game, &cert, name)?)
 }
 
 /// The picture of a node of the certificate under a name for this game. The certificate is read as
 /// one of the game's family.
 fn tell_node_on<F: Files>(
     alloc: Global,
+    look: Look,
     files: &mut F,
     board: &Board,
     certificate: &str,
     name: Option<NodeName>,
 ) -> Result<Telling, Halt>
     ensures found { Finds (F.told files.old).held
-        (λ held. IsDueOfBoth name
+        (λ held. IsDueOfBoth look name
         (with_certificate (Ok (board_entry board.now)) (held certificate.now))) result }
     ensures done { IfOk result (λ told. IsCertEnd told.status) }
     ensures halts { IfErr result IsReadHalt }
@@ -114,8 +154,8 @@ fn tell_node_on<F: Files>(
     ensures kept { ReadsOnly (F.told files.old) (F.told files.new) }
 {
     match board {
-        Board::Positional(game) => tell_node_of(alloc, files, game, certificate, name),
-        Board::Connectivity(game) => tell_claim_of(alloc, files, game, certificate, name),
+        Board::Positional(game) => tell_node_of(alloc, look, files, game, certificate, name),
+        Board::Connectivity(game) => tell_claim_of(alloc, look, files, game, certificate, name),
     }
 }
 
@@ -123,13 +163,15 @@ fn tell_node_on<F: Files>(
 /// certificate is opened only where the game is taken.
 fn tell_node<F: Files>(
     alloc: Global,
+    look: Look,
     files: &mut F,
     game: &str,
     certificate: &str,
     name: Option<NodeName>,
 ) -> Result<Telling, Halt>
     ensures found { Finds (F.told files.old).held
-        (λ held. IsDueOfBoth name (both_held (held game.now) (held certificate.now))) result }
+        (λ held. IsDueOfBoth look name
+        (both_held (held game.now) (held certificate.now))) result }
     ensures done { IfOk result (λ told. IsCertEnd told.status) }
     ensures halts { IfErr result IsReadHalt }
     ensures causes { HaltCauses
@@ -138,17 +180,18 @@ fn tell_node<F: Files>(
     ensures kept { ReadsOnly (F.told files.old) (F.told files.new) }
 {
     let board = open_board(alloc, files, game)?;
-    tell_node_on(alloc, files, &board, certificate, name)
+    tell_node_on(alloc, look, files, &board, certificate, name)
 }
 
 /// What there is to say to what the words ask for.
 pub(crate) fn tell<F: Files>(
     alloc: Global,
     words: &[String],
+    look: Look,
     files: &mut F,
 ) -> Result<Telling, Halt>
     ensures found { Finds (F.told files.old).held
-        (IsDue (order_of (map string_bytes words.now))) result }
+        (IsDue look (order_of (map string_bytes words.now))) result }
     ensures gives { Gives (order_of (map string_bytes words.now)) result }
     ensures causes { HaltCauses
         (IsLacking (F.told files.old).held (order_of (map string_bytes words.now)))
@@ -156,12 +199,22 @@ pub(crate) fn tell<F: Files>(
     ensures kept { ReadsOnly (F.told files.old) (F.told files.new) }
 {
     match words {
-        [game] => tell_game(alloc, files, game.as_str()),
-        [game, certificate] => tell_node(alloc, files, game.as_str(), certificate.as_str(), None),
+        [game] => tell_game(alloc, look, files, game.as_str()),
+        [game, certificate] => {
+            tell_node(
+                alloc,
+                look,
+                files,
+                game.as_str(),
+                certificate.as_str(),
+                None,
+            )
+        }
         [game, certificate, word] => match node_named(word.as_bytes()) {
             Some(name) => {
                 tell_node(
                     alloc,
+                    look,
                     files,
                     game.as_str(),
                     certificate.as_str(),

@@ -1,21 +1,22 @@
 -- What a scan makes of the parts of a picture's text.
 use Rattle.std.proofs.Common.{◌≡◌, ℕ, zero, suc, ◌+◌, ◌<◌, ◌%◌, ◌/◌, ◌==◌, ◌&&◌, nat_le, nat_lt}
 use Rattle.std.proofs.Common.{Bool, true, false, if◌then◌else◌, List, [], ◌∷◌, ◌++◌, codes, decimal}
-use Rattle.std.proofs.Common.{refl, ap, ◌∙◌, arith, lt-ltb}
+use Rattle.std.proofs.Common.{Option, Some, None, refl, ap, ◌∙◌, arith, lt-ltb}
 use Rattle.std.specs.List.{flat_map}
 use Rattle.std.specs.Fmt.{digits_onto, digit_glyph, digits}
 use Rattle.pg_base.specs.Texts.{Bytes}
-use Rattle.pg_picture.specs.Svg.{Attribute, attribute_text, begun, class_name, escaped}
-use Rattle.pg_picture.specs.Svg.{escaped_byte, filled, head, inside_of, lone, numbered, painted}
-use Rattle.pg_picture.specs.Svg.{path_of, picture_text, place_text, shape_text}
+use Rattle.pg_picture.specs.Svg.{Attribute, attribute_text, begun, class_name, copy_text, escaped}
+use Rattle.pg_picture.specs.Svg.{escaped_byte, filled, head, inside_of, lone, lowered, numbered}
+use Rattle.pg_picture.specs.Svg.{painted, path_of, picture_text, place_text, shape_text}
+use Rattle.pg_picture.specs.Svg.{shift_of, size_attributes}
 use Rattle.pg_picture.specs.Tags.{CloseInOrder, Scan, next, scan}
 use Rattle.pg_picture.specs.Tags.Scan.{Between, Begun, Opening, Within, Quoted, Closing}
 use Rattle.pg_picture.specs.declared.paint.Paint.{Paint}
 use Rattle.pg_picture.specs.declared.paint.Paint.TheVariants.{Free, OfX, OfY, Terminal, Vertex}
 use Rattle.pg_picture.specs.declared.paint.Paint.TheVariants.{Line, Edge, EdgeOfX, EdgeOfY, Pair}
-use Rattle.pg_picture.specs.declared.paint.Paint.TheVariants.{First, Second, Extra, Step, Move}
-use Rattle.pg_picture.specs.declared.paint.Paint.TheVariants.{Reply, Fault, Number, Mark, Weight}
-use Rattle.pg_picture.specs.declared.paint.Paint.TheVariants.{Legend, Heading}
+use Rattle.pg_picture.specs.declared.paint.Paint.TheVariants.{First, Second, Extra, Step, Answer}
+use Rattle.pg_picture.specs.declared.paint.Paint.TheVariants.{Move, Reply, Fault, Corner, Number}
+use Rattle.pg_picture.specs.declared.paint.Paint.TheVariants.{Plate, Mark, Weight, Legend, Heading}
 use Rattle.pg_picture.specs.declared.picture.Picture.{Picture}
 use Rattle.pg_picture.specs.declared.shape.Place.{Place}
 use Rattle.pg_picture.specs.declared.shape.Shape.{Shape}
@@ -93,10 +94,13 @@ class-value First = record { stays = λ name tags. refl }
 class-value Second = record { stays = λ name tags. refl }
 class-value Extra = record { stays = λ name tags. refl }
 class-value Step = record { stays = λ name tags. refl }
+class-value Answer = record { stays = λ name tags. refl }
 class-value Move = record { stays = λ name tags. refl }
 class-value Reply = record { stays = λ name tags. refl }
 class-value Fault = record { stays = λ name tags. refl }
+class-value Corner = record { stays = λ name tags. refl }
 class-value Number = record { stays = λ name tags. refl }
+class-value Plate = record { stays = λ name tags. refl }
 class-value Mark = record { stays = λ name tags. refl }
 class-value Weight = record { stays = λ name tags. refl }
 class-value Legend = record { stays = λ name tags. refl }
@@ -268,6 +272,9 @@ number-fit name n named = record { name = named; value = decimal-value n }
 paint-fit : (paint : Paint) → IsFit (painted paint)
 paint-fit paint = record { name = λ tag tags. refl; value = class-value paint }
 
+lowered-fit : IsFit lowered
+lowered-fit = record { name = λ tag tags. refl; value = record { stays = λ name tags. refl } }
+
 path-fit : (from bend to : Place) → IsFit (path_of from bend to)
 path-fit from bend to = record {
   name = λ tag tags. refl;
@@ -312,13 +319,38 @@ shape-whole (Bow from bend to paint) = lone-whole (codes "path") (painted paint)
 shape-whole (Words at words paint) = filled-whole (codes "text") (painted paint) _ (escaped words)
     (record { opens = λ tags. refl; closes = λ tags. refl }) (paint-fit paint)
     (AreFit.also (number-fit (codes "x") at.across (λ tag tags. refl))
-    (AreFit.also (number-fit (codes "y") at.down (λ tag tags. refl)) AreFit.none))
-    (escaped-whole words)
+    (AreFit.also (number-fit (codes "y") at.down (λ tag tags. refl))
+    (AreFit.also lowered-fit AreFit.none))) (escaped-whole words)
 
 shapes-whole : (ss : List Shape) → IsWhole (flat_map shape_text ss)
 shapes-whole [] = record { whole = λ tags. refl }
 shapes-whole (s ∷ ss) =
     wholes (shape_text s) (flat_map shape_text ss) (shape-whole s) (shapes-whole ss)
+
+-- ---- copies
+
+shift-fit : (place : Place) → IsFit (shift_of place)
+shift-fit place = record {
+  name = λ tag tags. refl;
+  value = values (codes "translate(") _ (record {
+    stays = λ name tags. refl;
+  }) (values (place_text place) (codes ")") (place-value place) (record {
+    stays = λ name tags. refl;
+  }));
+}
+
+copy-whole : (ss : List Shape) (place : Place) → IsWhole (copy_text ss place)
+unfolding copy_text
+copy-whole ss place = filled-whole (codes "g") (shift_of place) [] _
+    (record { opens = λ tags. refl; closes = λ tags. refl }) (shift-fit place) AreFit.none
+    (wholes (codes "\n") (flat_map shape_text ss) (record {
+      whole = λ tags. refl;
+    }) (shapes-whole ss))
+
+copies-whole : (ss : List Shape) (places : List Place) → IsWhole (flat_map (copy_text ss) places)
+copies-whole ss [] = record { whole = λ tags. refl }
+copies-whole ss (place ∷ places) = wholes (copy_text ss place) (flat_map (copy_text ss) places)
+    (copy-whole ss place) (copies-whole ss places)
 
 -- ---- pictures
 
@@ -332,15 +364,25 @@ inside_of-whole p = wholes (filled (codes "title") [] (escaped p.title)) _
       opens = λ tags. refl;
       closes = λ tags. refl;
     }) (escaped-whole p.title))
-    (wholes (filled (codes "style") [] STYLE.now) (flat_map shape_text p.shapes)
+    (wholes (filled (codes "style") [] STYLE.now)
+    (flat_map shape_text p.shapes ++ flat_map (copy_text p.shapes) p.copies)
     (plain-whole (codes "style") STYLE.now (record {
       opens = λ tags. refl;
       closes = λ tags. refl;
-    }) style-whole) (shapes-whole p.shapes))
+    }) style-whole)
+    (wholes (flat_map shape_text p.shapes) (flat_map (copy_text p.shapes) p.copies)
+    (shapes-whole p.shapes) (copies-whole p.shapes p.copies)))
 
-head-within : (width height : ℕ) → scan (Between []) (head width height) ≡ Within (codes "svg") []
+sizes-fit : (width height : ℕ) (size : Option ℕ) → AreFit (size_attributes width height size)
+sizes-fit width height None = AreFit.none
+sizes-fit width height (Some size) =
+    AreFit.also (number-fit (codes "width") size (λ tag tags. refl))
+    (AreFit.also (number-fit (codes "height") _ (λ tag tags. refl)) AreFit.none)
+
+head-within : (width height : ℕ) (size : Option ℕ)
+    → scan (Between []) (head width height size) ≡ Within (codes "svg") []
 unfolding head
-head-within width height = begun-within (codes "svg") (record {
+head-within width height size = begun-within (codes "svg") (record {
   name = codes "xmlns";
   value = NAME_SPACE.now;
 }) _ [] (record { opens = λ tags. refl; closes = λ tags. refl }) (record {
@@ -353,12 +395,12 @@ head-within width height = begun-within (codes "svg") (record {
   }) (values (decimal width) _ (decimal-value width) (values (codes " ") (decimal height) (record {
     stays = λ name tags. refl;
   }) (decimal-value height)));
-}) AreFit.none)
+}) (sizes-fit width height size))
 
 pub picture-closes : (p : Picture) → CloseInOrder (picture_text p)
 unfolding picture_text
 picture-closes p =
-    through (Between []) (Within (codes "svg") []) (Between []) (head p.width p.height)
-    (codes ">\n" ++ (inside_of p ++ codes "</svg>\n")) (head-within p.width p.height)
+    through (Between []) (Within (codes "svg") []) (Between []) (head p.width p.height p.size)
+    (codes ">\n" ++ (inside_of p ++ codes "</svg>\n")) (head-within p.width p.height p.size)
     (through (Between (codes "svg" ∷ [])) (Between (codes "svg" ∷ [])) (Between []) (inside_of p)
     (codes "</svg>\n") ((inside_of-whole p).whole (codes "svg" ∷ [])) refl)

@@ -1,14 +1,14 @@
 -- The text of a picture: SVG 1.1, in ASCII.
-use Rattle.std.specs.Prelude.{ℕ, ◌%◌, ◌==◌, ◌&&◌, nat_lt, nat_le, if◌then◌else◌, List, [], ◌∷◌}
-use Rattle.std.specs.Prelude.{◌++◌, codes, decimal}
+use Rattle.std.specs.Prelude.{ℕ, ◌*◌, ◌/◌, ◌%◌, ◌==◌, ◌&&◌, nat_lt, nat_le, max, if◌then◌else◌}
+use Rattle.std.specs.Prelude.{List, [], ◌∷◌, ◌++◌, Option, Some, None, codes, decimal}
 use Rattle.std.specs.List.{flat_map}
 use Rattle.pg_base.specs.Texts.{Bytes}
 use Rattle.pg_picture.specs.declared.paint.Paint.{Paint}
 use Rattle.pg_picture.specs.declared.paint.Paint.TheVariants.{Free, OfX, OfY, Terminal, Vertex}
 use Rattle.pg_picture.specs.declared.paint.Paint.TheVariants.{Line, Edge, EdgeOfX, EdgeOfY, Pair}
-use Rattle.pg_picture.specs.declared.paint.Paint.TheVariants.{First, Second, Extra, Step, Move}
-use Rattle.pg_picture.specs.declared.paint.Paint.TheVariants.{Reply, Fault, Number, Mark, Weight}
-use Rattle.pg_picture.specs.declared.paint.Paint.TheVariants.{Legend, Heading}
+use Rattle.pg_picture.specs.declared.paint.Paint.TheVariants.{First, Second, Extra, Step, Answer}
+use Rattle.pg_picture.specs.declared.paint.Paint.TheVariants.{Move, Reply, Fault, Corner, Number}
+use Rattle.pg_picture.specs.declared.paint.Paint.TheVariants.{Plate, Mark, Weight, Legend, Heading}
 use Rattle.pg_picture.specs.declared.picture.Picture.{Picture}
 use Rattle.pg_picture.specs.declared.shape.Place.{Place}
 use Rattle.pg_picture.specs.declared.shape.Shape.{Shape}
@@ -78,10 +78,13 @@ class_name First = codes "first"
 class_name Second = codes "second"
 class_name Extra = codes "extra"
 class_name Step = codes "step"
+class_name Answer = codes "answer"
 class_name Move = codes "move"
 class_name Reply = codes "reply"
 class_name Fault = codes "fault"
+class_name Corner = codes "corner"
 class_name Number = codes "number"
+class_name Plate = codes "plate"
 class_name Mark = codes "mark"
 class_name Weight = codes "weight"
 class_name Legend = codes "legend"
@@ -93,6 +96,10 @@ painted paint = record { name = codes "class"; value = class_name paint }
 -- an attribute whose value is a number
 abbrev pub numbered : Bytes → ℕ → Attribute
 numbered name number = record { name = name; value = decimal number }
+
+-- the line of letters is so far below a place that they are centred on it
+abbrev pub lowered : Attribute
+lowered = record { name = codes "dy"; value = codes ".35em" }
 
 -- a place in a path
 abbrev pub place_text : Place → Bytes
@@ -120,25 +127,45 @@ shape_text (Stroke from to paint) = lone (codes "line")
 shape_text (Bow from bend to paint) =
     lone (codes "path") (painted paint ∷ path_of from bend to ∷ [])
 shape_text (Words at words paint) = filled (codes "text")
-    (painted paint ∷ numbered (codes "x") at.across ∷ numbered (codes "y") at.down ∷ [])
+    (painted paint ∷ numbered (codes "x") at.across ∷ numbered (codes "y") at.down ∷ lowered ∷ [])
     (escaped words)
 
 -- ---- pictures
 
--- the tag that opens a picture, but for its end: the name space of its tags, and the part of the
--- plane that is seen
-unfoldable pub head : ℕ → ℕ → Bytes
-head width height =
+-- how many pixels wide a picture is shown, if that is said, and how many high in proportion
+abbrev pub size_attributes : ℕ → ℕ → Option ℕ → List Attribute
+size_attributes width height None = []
+size_attributes width height (Some size) = numbered (codes "width") size
+    ∷ numbered (codes "height") (size * height / max width 1) ∷ []
+
+-- the tag that opens a picture, but for its end: the name space of its tags, the part of the plane
+-- that is seen, and how large it is shown
+unfoldable pub head : ℕ → ℕ → Option ℕ → Bytes
+head width height size =
     begun (codes "svg") (record { name = codes "xmlns"; value = NAME_SPACE.now } ∷ record {
       name = codes "viewBox";
       value = codes "0 0 " ++ (decimal width ++ (codes " " ++ decimal height));
-    } ∷ [])
+    } ∷ size_attributes width height size)
 
--- what stands in it: the title, the style sheet, and the shapes
+-- how far to the right and down shapes are shifted
+abbrev pub shift_of : Place → Attribute
+shift_of place = record {
+  name = codes "transform";
+  value = codes "translate(" ++ (place_text place ++ codes ")");
+}
+
+-- a copy of shapes, so far to the right and down
+unfoldable pub copy_text : List Shape → Place → Bytes
+copy_text shapes place =
+    filled (codes "g") (shift_of place ∷ []) (codes "\n" ++ flat_map shape_text shapes)
+
+-- what stands in it: the title, the style sheet, the shapes, and the copies of these
 unfoldable pub inside_of : Picture → Bytes
 inside_of p = filled (codes "title") [] (escaped p.title)
-    ++ (filled (codes "style") [] STYLE.now ++ flat_map shape_text p.shapes)
+    ++ (filled (codes "style") [] STYLE.now
+    ++ (flat_map shape_text p.shapes ++ flat_map (copy_text p.shapes) p.copies))
 
 -- a picture
 unfoldable pub picture_text : Picture → Bytes
-picture_text p = head p.width p.height ++ (codes ">\n" ++ (inside_of p ++ codes "</svg>\n"))
+picture_text p =
+    head p.width p.height p.size ++ (codes ">\n" ++ (inside_of p ++ codes "</svg>\n"))

@@ -13,6 +13,6 @@ pub use laws::{scan_refuses, tags_close_in_order};
 pub use paint::Paint;
 pub use picture::Picture;
 pub use printing::print_picture;
-pub use shape::{Place, Shape, Shapes};
+pub use shape::{Place, Places, Shape, Shapes};
 pub use style::{NAME_SPACE, STYLE};
 pub use text::Text;

@@ -31,19 +31,25 @@ pub enum Paint {
     Second,
     /// The extra edge, which a tree or cut has beside the graph's own.
     Extra,
-    /// A step of a sequence of threats.
+    /// An attack of a sequence of threats.
     Step,
+    /// A forced reply of a sequence of threats.
+    Answer,
     /// The move of a node.
     Move,
     /// A reply that a node answers.
     Reply,
     /// What a fault was found in.
     Fault,
-    /// The number of a point.
+    /// The number of a cell, in its corner.
+    Corner,
+    /// Another number: of a disc, an edge, a vertex or a step.
     Number,
+    /// The ground of words that would lie over something else.
+    Plate,
     /// The mark of a side.
     Mark,
-    /// The weight of a line.
+    /// The weight of a point.
     Weight,
     /// A row of the legend.
     Legend,

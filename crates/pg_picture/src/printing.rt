@@ -1,9 +1,11 @@
 //! The text of a picture.
-ghost use Rattle.std.specs.Prelude.{◌≡◌, ◌++◌, [], OnOk, IfOk, codes, decimal, string_bytes};
+ghost use Rattle.std.specs.Prelude.{◌≡◌, ◌*◌, ◌/◌, ◌++◌, [], OnOk, IfOk, codes, decimal, max};
+ghost use Rattle.std.specs.Prelude.{string_bytes};
 ghost use Rattle.std.specs.List.{flat_map};
-ghost use Rattle.pg_picture.specs.Svg.{attribute_text, class_name, escaped, escaped_byte, filled};
-ghost use Rattle.pg_picture.specs.Svg.{head, numbered, painted, path_of, picture_text, place_text};
-ghost use Rattle.pg_picture.specs.Svg.{shape_text};
+ghost use Rattle.pg_picture.specs.Svg.{attribute_text, class_name, copy_text, escaped};
+ghost use Rattle.pg_picture.specs.Svg.{escaped_byte, filled, head, lowered, numbered, painted};
+ghost use Rattle.pg_picture.specs.Svg.{path_of, picture_text, place_text, shape_text, shift_of};
+ghost use Rattle.pg_picture.specs.Svg.{size_attributes};
 ghost use Rattle.pg_picture.specs.declared.shape.Shape.TheVariants as shapes;
 
 use crate::paint::Paint;
@@ -61,10 +63,13 @@ fn put_class(out: &mut String, paint: Paint) -> Result<(), AllocError>
         Paint::Second => out.push_str("second"),
         Paint::Extra => out.push_str("extra"),
         Paint::Step => out.push_str("step"),
+        Paint::Answer => out.push_str("answer"),
         Paint::Move => out.push_str("move"),
         Paint::Reply => out.push_str("reply"),
         Paint::Fault => out.push_str("fault"),
+        Paint::Corner => out.push_str("corner"),
         Paint::Number => out.push_str("number"),
+        Paint::Plate => out.push_str("plate"),
         Paint::Mark => out.push_str("mark"),
         Paint::Weight => out.push_str("weight"),
         Paint::Legend => out.push_str("legend"),
@@ -199,6 +204,16 @@ fn put_bow(
     Ok(())
 }
 
+/// The attribute that lowers the line of letters, so that they are centred on their place.
+#[tactic(auto, unfolding(crate::specs::Svg::attribute_text))]
+fn put_lowered(out: &mut String) -> Result<(), AllocError>
+    ensures { OnOk result
+        (string_bytes out.new ≡ string_bytes out.old ++ attribute_text lowered) }
+{
+    out.push_str(" dy=\".35em\"")?;
+    Ok(())
+}
+
 /// Words at a place.
 fn put_text(out: &mut String, at: Place, words: &str, paint: Paint) -> Result<(), AllocError>
     ensures { OnOk result
@@ -208,6 +223,7 @@ fn put_text(out: &mut String, at: Place, words: &str, paint: Paint) -> Result<()
     out.push_str("<text")?;
     put_paint(out, paint)?;
     put_place(out, "x", "y", at)?;
+    put_lowered(out)?;
     out.push_str(">")?;
     put_words(out, words)?;
     out.push_str("</text>\n")?;
@@ -251,6 +267,42 @@ fn put_shapes(out: &mut String, shapes: &[Shape]) -> Result<(), AllocError>
     Ok(())
 }
 
+/// The attribute that shifts shapes.
+fn put_shift(out: &mut String, place: Place) -> Result<(), AllocError>
+    ensures { OnOk result
+        (string_bytes out.new ≡ string_bytes out.old ++ attribute_text (shift_of place)) }
+{
+    out.push_str(" transform=\"translate(")?;
+    put_step(out, "", place)?;
+    out.push_str(")\"")?;
+    Ok(())
+}
+
+/// A copy of shapes, so far to the right and down.
+fn put_copy(out: &mut String, shapes: &[Shape], place: Place) -> Result<(), AllocError>
+    ensures { OnOk result
+        (string_bytes out.new ≡ string_bytes out.old ++ copy_text shapes.now place) }
+{
+    out.push_str("<g")?;
+    put_shift(out, place)?;
+    out.push_str(">\n")?;
+    put_shapes(out, shapes)?;
+    out.push_str("</g>\n")?;
+    Ok(())
+}
+
+/// Copies of shapes in order.
+fn put_copies(out: &mut String, shapes: &[Shape], places: &[Place]) -> Result<(), AllocError>
+    ensures { OnOk result
+        (string_bytes out.new
+        ≡ string_bytes out.old ++ flat_map (copy_text shapes.now) places.now) }
+{
+    for place in places {
+        put_copy(out, shapes, *place)?;
+    }
+    Ok(())
+}
+
 /// The title, as it is shown by what shows the picture.
 fn put_title(out: &mut String, title: &str) -> Result<(), AllocError>
     ensures { OnOk result
@@ -274,13 +326,37 @@ fn put_style(out: &mut String) -> Result<(), AllocError>
     Ok(())
 }
 
+/// How many pixels high a picture is shown, in proportion to how wide.
+fn height_at(width: u32, height: u32, across: u32) -> u64
+    ensures { result ≡ across * height / max width 1 }
+{
+    u64::from(across) * u64::from(height) / u64::from(width.max(1))
+}
+
+/// The attributes by which a picture is shown at a size, if there is one.
+#[tactic(auto, unfolding(crate::specs::Svg::attribute_text))]
+fn put_size(out: &mut String, width: u32, height: u32, size: Option<u32>) -> Result<(), AllocError>
+    ensures { OnOk result
+        (string_bytes out.new
+        ≡ string_bytes out.old ++ flat_map attribute_text (size_attributes width height size)) }
+{
+    let Some(across) = size else {
+        return Ok(());
+    };
+    let down = height_at(width, height, across);
+    write!(out, " width=\"{across}\" height=\"{down}\"")?;
+    Ok(())
+}
+
 /// The tag that opens a picture, but for its end.
-fn put_head(out: &mut String, width: u32, height: u32) -> Result<(), AllocError>
-    ensures { OnOk result (string_bytes out.new ≡ string_bytes out.old ++ head width height) }
+fn put_head(out: &mut String, width: u32, height: u32, size: Option<u32>) -> Result<(), AllocError>
+    ensures { OnOk result
+        (string_bytes out.new ≡ string_bytes out.old ++ head width height size) }
 {
     out.push_str("<svg xmlns=\"")?;
     out.push_str(NAME_SPACE)?;
     write!(out, "\" viewBox=\"0 0 {width} {height}\"")?;
+    put_size(out, width, height, size)?;
     Ok(())
 }
 
@@ -294,11 +370,13 @@ pub fn print_picture(alloc: Global, picture: &Picture) -> Result<String, Memory>
     ensures { IfOk result (λ text. string_bytes text ≡ picture_text picture.now) }
 {
     let mut out = String::new(alloc);
-    put_head(&mut out, picture.width, picture.height)?;
+    put_head(&mut out, picture.width, picture.height, picture.size)?;
     out.push_str(">\n")?;
     put_title(&mut out, picture.title.as_str())?;
     put_style(&mut out)?;
-    put_shapes(&mut out, picture.shapes.as_slice())?;
+    let shapes = picture.shapes.as_slice();
+    put_shapes(&mut out, shapes)?;
+    put_copies(&mut out, shapes, picture.copies.as_slice())?;
     out.push_str("</svg>\n")?;
     Ok(out)
 }

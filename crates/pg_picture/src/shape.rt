@@ -14,6 +14,38 @@ pub struct Place {
     pub down: u32,
 }
 
+/// A list of places.
+#[derive(Debug, Drop)]
+pub struct Places {
+    members: Vec<Place>,
+}
+
+/// The places in order.
+impl Model for Places {
+    ghost use Rattle.std.specs.Prelude.{List};
+    ghost use Rattle.pg_picture.specs.declared.shape.Place.{Place};
+
+    ghost Value = { List Place };
+
+    ghost view = { λ a. a.members.items };
+}
+
+impl Places {
+    /// The list of these places.
+    pub fn from_vec(members: Vec<Place>) -> Places
+        ensures { result ≡ members.items }
+    {
+        Places { members }
+    }
+
+    /// The places in order.
+    pub fn as_slice(&self) -> &[Place]
+        ensures { result.now ≡ self.now }
+    {
+        self.members.as_slice()
+    }
+}
+
 /// A shape of a picture.
 #[derive(Debug, Drop)]
 pub enum Shape {

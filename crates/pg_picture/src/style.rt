@@ -4,17 +4,19 @@
 pub const NAME_SPACE: &str = "http://www.w3.org/2000/svg";
 
 /// How shapes are painted, a class for each paint. What is X's is dark and what is Y's is light,
-/// also where it is printed in grey; pairs differ in their hue and in their dash. Words are 14
-/// units high, marks 18 and the heading 20.
+/// also where it is printed in grey; pairs differ in their hue and in their dash, attacks and
+/// replies in theirs. Numbers are 11 units high, weights and nodes 13, the legend 12, marks 18 and
+/// the heading 16.
 pub const STYLE: &str = "
-rect,circle{stroke:#000;stroke-width:1}
-line,path{fill:none;stroke:#000;stroke-width:2}
-text{font:14px sans-serif;text-anchor:middle;dominant-baseline:central}
+rect,circle{stroke:#444;stroke-width:1}
+line,path{fill:none;stroke:#444;stroke-width:2}
+text{font:11px sans-serif;text-anchor:middle;fill:#222}
 .free,.vertex{fill:#fff}
-.of-x{fill:#2f5f98}
+.of-x{fill:#7fa8d8}
 .of-y{fill:#f8cfae}
-.terminal{fill:#888}
-.line{fill:none;stroke:#aaa;stroke-width:1}
+.terminal{fill:#bbb}
+line.terminal{stroke:#bbb;stroke-width:8}
+.line{fill:#999;stroke:#999;stroke-width:1}
 .edge{fill:none;stroke:#999;stroke-width:2}
 .edge-of-x{fill:none;stroke:#2f5f98;stroke-width:6}
 .edge-of-y{fill:none;stroke:#e8a878;stroke-width:3;stroke-dasharray:2 4}
@@ -30,11 +32,16 @@ text{font:14px sans-serif;text-anchor:middle;dominant-baseline:central}
 .second{fill:none;stroke:#c06000;stroke-width:4;stroke-dasharray:8 4}
 .extra{fill:none;stroke:#606060;stroke-width:2;stroke-dasharray:2 3}
 .step{fill:none;stroke:#8000a0;stroke-width:3}
-.move{fill:none;stroke:#008030;stroke-width:5}
-.reply{fill:none;stroke:#c00070;stroke-width:3;stroke-dasharray:4 3}
+.answer{fill:none;stroke:#a06000;stroke-width:2;stroke-dasharray:3 2}
+.move{fill:none;stroke:#008030;stroke-width:4}
+.reply{fill:none;stroke:#c00070;stroke-width:2;stroke-dasharray:4 3}
 .fault{fill:none;stroke:#e00000;stroke-width:6}
-text[class]{fill:#000;stroke:#fff;stroke-width:3;paint-order:stroke}
+.plate{fill:#fff;stroke:none}
+text.corner{fill:#666;text-anchor:start}
 text.mark{font-size:18px;font-weight:bold}
-text.legend,text.heading{stroke:none;text-anchor:start}
-text.heading{font-size:20px}
+text.weight{font-size:13px;font-weight:bold}
+text.move,text.reply{font-size:13px;fill:#222;stroke:none}
+text.legend,text.heading{text-anchor:start}
+text.legend{font-size:12px}
+text.heading{font-size:16px}
 ";

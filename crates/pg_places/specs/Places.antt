@@ -25,6 +25,10 @@ upper_left place left up = at (place.across - left) (place.down - up)
 abbrev pub upper_right : Place → ℕ → ℕ → Place
 upper_right place right up = at (place.across + right) (place.down - up)
 
+-- the place so far down and to the right of another
+abbrev pub lower_right : Place → ℕ → ℕ → Place
+lower_right place right down = at (place.across + right) (place.down + down)
+
 -- the place so far down from another
 abbrev pub lower : Place → ℕ → Place
 lower place down = at place.across (place.down + down)

@@ -19,5 +19,5 @@ pub use course::{Course, bend_of, middle_of, parallels};
 pub use courses::Courses;
 pub use grid::place_on_grid;
 pub use measures::{APART, CELL, HALF, MARGIN, MAX_MIDDLE_REACH, MAX_ON_RING, ROW, TOP};
-pub use shifts::{lower, upper_left, upper_right};
+pub use shifts::{lower, lower_right, upper_left, upper_right};
 pub use vertices::Plan;

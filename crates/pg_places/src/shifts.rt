@@ -1,6 +1,6 @@
 //! Places beside others.
 ghost use Rattle.std.specs.Prelude.{◌≡◌, ◌≤◌};
-ghost use Rattle.pg_places.specs.Places.{IsWithin, lower, upper_left, upper_right};
+ghost use Rattle.pg_places.specs.Places.{IsWithin, lower, lower_right, upper_left, upper_right};
 
 use crate::measures::{MAX_MIDDLE_REACH, MAX_SHIFT};
 use pg_picture::Place;
@@ -24,6 +24,19 @@ pub fn upper_right(place: Place, right: u32, up: u32) -> Place
     Place {
         across: place.across + right,
         down: place.down.saturating_sub(up),
+    }
+}
+
+/// The place so far down and to the right.
+pub fn lower_right(place: Place, right: u32, down: u32) -> Place
+    requires near { IsWithin MAX_MIDDLE_REACH place }
+    requires right { right ≤ MAX_SHIFT }
+    requires down { down ≤ MAX_SHIFT }
+    ensures { result ≡ lower_right place right down }
+{
+    Place {
+        across: place.across + right,
+        down: place.down + down,
     }
 }
 

@@ -7,3 +7,4 @@ pub mod ReadBack
 pub mod Scaled
 pub mod Named
 pub mod SpanWithin
+mod Lanes

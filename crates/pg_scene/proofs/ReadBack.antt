@@ -1,6 +1,7 @@
 -- What is read off the items of a scene.
 use Rattle.std.proofs.Common.{◌≡◌, ℕ, suc, ◌<◌, ◌≤◌, Bool, true, false, ◌&&◌, List, [], ◌∷◌, ◌++◌}
-use Rattle.std.proofs.Common.{length, map, take, Option, Some, None, refl, sym, ap, ap₂, ◌∙◌, subst}
+use Rattle.std.proofs.Common.{get_or, length, map, take, Option, Some, None, refl, sym, ap, ap₂}
+use Rattle.std.proofs.Common.{◌∙◌, subst}
 use Rattle.std.proofs.Common.{inl, inr, arith}
 use Rattle.std.specs.Prelude.{nat_lt}
 use Rattle.pg_scene.proofs.Common.{FinSet, decimal, All, flat_map, range_with_len, nat_cmp}
@@ -11,15 +12,18 @@ use Rattle.pg_scene.proofs.Common.{start, Game, Position}
 use Rattle.std.proofs.lemmas.List.{take_all}
 use Rattle.std.proofs.lemmas.List.Folds.{flat_map-map}
 use Rattle.pg_cert.specs.declared.node.Body.TheVariants as bodies
-use Rattle.pg_scene.specs.Items.{are_drawn, body_items, fault_items, line_items, mark_of}
-use Rattle.pg_scene.specs.Items.{member_items, numbered, pair_item, point_items, reply_item}
-use Rattle.pg_scene.specs.Items.{seen_if, set_items, step_item, units, weight_items}
+use Rattle.pg_scene.specs.Items.{are_drawn, body_items, fault_items, lane_after, line_item}
+use Rattle.pg_scene.specs.Items.{line_items, mark_of, member_items, numbered, pair_item}
+use Rattle.pg_scene.specs.Items.{point_items, reply_item}
+use Rattle.pg_scene.specs.Items.{seen_at, seen_if, set_items, step_item, units, weight_items}
 use Rattle.pg_scene.specs.Read.{first_in, pair_in, point_in, reply_in, second_in}
+use Rattle.pg_scene.specs.Recorded.{IsSceneOfMoves, move_items}
 use Rattle.pg_scene.specs.Scenes.{IsSceneOf, IsSceneOfGame}
 use Rattle.pg_scene.specs.declared.item.Item.{Item}
 use Rattle.pg_scene.specs.declared.item.Item.TheVariants as items
 use Rattle.pg_scene.specs.declared.item.Set.{Set}
 use Rattle.pg_scene.specs.declared.item.Set.TheVariants.{First, Second}
+use Rattle.pg_scene.specs.declared.look.Look.{Look}
 use Rattle.pg_scene.specs.declared.scene.Scene.{Scene}
 
 -- ---- lists in which nothing is read, or all
@@ -70,11 +74,13 @@ none-members r n set edges h = none-map r (λ v. items.Member v set) h (points_b
 
 -- ---- parts of scenes
 
-none-lines : {B : Type 0} (r : Item → List B) (lines : List (List ℕ))
-    → ((vs : List ℕ) → r (items.Line vs) ≡ [])
-    → flat_map r (line_items lines) ≡ []
-none-lines r lines h = elim (cases_Bool (are_drawn lines)) [
-  | inl few ↦ rw few (none-map r items.Line h lines)
+none-lines : {B : Type 0} (r : Item → List B) (seen : Bool) (lines : List (List ℕ))
+    → ((vs : List ℕ) (lane : ℕ) → r (items.Line vs lane) ≡ [])
+    → flat_map r (line_items seen lines) ≡ []
+none-lines r seen lines h = elim (cases_Bool (are_drawn seen lines)) [
+  | inl few ↦ rw few (none-map r (line_item lines)
+      (λ i. h (get_or lines i []) (lane_after lines i (get_or lines i [])))
+      (range_with_len 0 (length lines)))
   | inr many ↦ rw many refl
 ]
 
@@ -94,21 +100,21 @@ parts-read r ps ls bs fs = flat_map-append r ps (ls ++ (bs ++ fs))
 -- what is read where nothing is read of points, lines and faults
 body-read : {B : Type 0} (r : Item → List B)
     → ((v : ℕ) (mark : Option Side) → r (items.Point v mark) ≡ [])
-    → ((vs : List ℕ) → r (items.Line vs) ≡ [])
+    → ((vs : List ℕ) (lane : ℕ) → r (items.Line vs lane) ≡ [])
     → r items.Fault ≡ []
-    → (g : Game) (claim : Claim) (k : ℕ) (node : Node) (fault : Option ℕ) (scene : Scene)
-    → IsSceneOf g claim k node fault scene
+    → (look : Look) (g : Game) (claim : Claim) (k : ℕ) (node : Node) (fault : Option ℕ)
+    (scene : Scene) → IsSceneOf look g claim k node fault scene
     → flat_map r scene.items ≡ flat_map r (body_items g (position_of node) claim.side node.body)
-body-read r points lines faulty g claim k node fault scene is =
+body-read r points lines faulty look g claim k node fault scene is =
     let p = position_of node in
     let body = body_items g p claim.side node.body in
     ap (flat_map r) is.items
-    ∙ parts-read r (point_items (point_count g) p) (line_items (lines_of g)) body
+    ∙ parts-read r (point_items (point_count g) p) (line_items look.lines (lines_of g)) body
     (fault_items fault)
     ∙ ap₂ (λ a b. a ++ b)
     (none-map r (λ v. items.Point v (mark_of p v)) (λ v. points v (mark_of p v))
     (range_with_len 0 (point_count g)))
-    (ap₂ (λ a b. a ++ b) (none-lines r (lines_of g) lines)
+    (ap₂ (λ a b. a ++ b) (none-lines r look.lines (lines_of g) lines)
     (ap (λ b. flat_map r body ++ b) (none-fault r fault faulty) ∙ append-nil (flat_map r body)))
 
 -- ---- points
@@ -159,29 +165,48 @@ points-read : (n : ℕ) (p : Position) → flat_map point_in (point_items n p) �
 points-read n p = all-map point_in (λ v. items.Point v (mark_of p v)) (λ v. (v, mark_of p v))
     (λ v. refl) (range_with_len 0 n)
 
-pub points-game : (g : Game) (scene : Scene)
-    → IsSceneOfGame g scene
-    → flat_map point_in scene.items ≡ marked (point_count g) (start g)
-points-game g scene is = ap (flat_map point_in) is.items
-    ∙ flat_map-append point_in (point_items (point_count g) (start g)) (line_items (lines_of g))
-    ∙ ap₂ (λ a b. a ++ b) (points-read (point_count g) (start g))
-    (none-lines point_in (lines_of g) (λ vs. refl))
-    ∙ append-nil (marked (point_count g) (start g))
+pub points-game : (look : Look) (g : Game) (scene : Scene)
+    → IsSceneOfGame look g scene
+    → flat_map point_in scene.items ≡ marked (point_count g) (seen_at look.blank (start g))
+points-game look g scene is =
+    let p = seen_at look.blank (start g) in
+    ap (flat_map point_in) is.items
+    ∙ flat_map-append point_in (point_items (point_count g) p)
+    (line_items look.lines (lines_of g))
+    ∙ ap₂ (λ a b. a ++ b) (points-read (point_count g) p)
+    (none-lines point_in look.lines (lines_of g) (λ vs lane. refl))
+    ∙ append-nil (marked (point_count g) p)
 
-pub points-node : (g : Game) (claim : Claim) (k : ℕ) (node : Node) (fault : Option ℕ)
+pub points-node : (look : Look) (g : Game) (claim : Claim) (k : ℕ) (node : Node) (fault : Option ℕ)
     (scene : Scene)
-    → IsSceneOf g claim k node fault scene
+    → IsSceneOf look g claim k node fault scene
     → flat_map point_in scene.items ≡ marked (point_count g) (position_of node)
-points-node g claim k node fault scene is =
+points-node look g claim k node fault scene is =
     let p = position_of node in
     let body = body_items g p claim.side node.body in
     ap (flat_map point_in) is.items
-    ∙ parts-read point_in (point_items (point_count g) p) (line_items (lines_of g)) body
+    ∙ parts-read point_in (point_items (point_count g) p) (line_items look.lines (lines_of g)) body
     (fault_items fault)
     ∙ ap₂ (λ a b. a ++ b) (points-read (point_count g) p)
-    (ap₂ (λ a b. a ++ b) (none-lines point_in (lines_of g) (λ vs. refl))
+    (ap₂ (λ a b. a ++ b) (none-lines point_in look.lines (lines_of g) (λ vs lane. refl))
     (ap₂ (λ a b. a ++ b) (no-points g p claim.side node.body) (none-fault point_in fault refl)))
     ∙ append-nil (marked (point_count g) p)
+
+pub points-moves : (look : Look) (g : Game) (p : Position) (over : Bool) (moves : List ℕ)
+    (scene : Scene)
+    → IsSceneOfMoves look g p over moves scene
+    → flat_map point_in scene.items ≡ marked (point_count g) p
+points-moves look g p over moves scene is =
+    let n = point_count g in
+    let lines = line_items look.lines (lines_of g) in
+    ap (flat_map point_in) is.items
+    ∙ flat_map-append point_in (point_items n p) (lines ++ move_items n moves)
+    ∙ ap₂ (λ a b. a ++ b) (points-read n p)
+    (flat_map-append point_in lines (move_items n moves)
+    ∙ ap₂ (λ a b. a ++ b) (none-lines point_in look.lines (lines_of g) (λ vs lane. refl))
+    (none-numbered point_in (step_item n)
+    (λ k v. none-seen point_in (nat_lt v n) (items.Step v k) refl) 1 moves))
+    ∙ append-nil (marked n p)
 
 -- ---- pairs
 
@@ -202,27 +227,28 @@ pairs-read n k (q ∷ pairs) h =
     (pairs-read n (suc k) pairs (λ i d lt. h (suc i) d (omega arith)))
 
 -- of any list the first pairs are drawn, as many as there are points
-pub pairs-first : (g : Game) (claim : Claim) (k : ℕ) (node : Node) (fault : Option ℕ)
+pub pairs-first : (look : Look) (g : Game) (claim : Claim) (k : ℕ) (node : Node) (fault : Option ℕ)
     (scene : Scene)
-    → IsSceneOf g claim k node fault scene
+    → IsSceneOf look g claim k node fault scene
     → (pairs : List Pair) → node.body ≡ bodies.Pairs pairs
     → All (λ q. (q.a < point_count g) × (q.b < point_count g)) (take (point_count g) pairs)
     → flat_map pair_in scene.items ≡ take (point_count g) pairs
-pairs-first g claim k node fault scene is pairs body within =
-    body-read pair_in (λ v mark. refl) (λ vs. refl) refl g claim k node fault scene is
+pairs-first look g claim k node fault scene is pairs body within =
+    body-read pair_in (λ v mark. refl) (λ vs lane. refl) refl look g claim k node fault scene is
     ∙ ap (λ (b : Body). flat_map pair_in (body_items g (position_of node) claim.side b)) body
     ∙ pairs-read (point_count g) 0 (take (point_count g) pairs) within
 
 -- no more pairs than points are drawn all
-pub pairs-all : (g : Game) (claim : Claim) (k : ℕ) (node : Node) (fault : Option ℕ) (scene : Scene)
-    → IsSceneOf g claim k node fault scene
+pub pairs-all : (look : Look) (g : Game) (claim : Claim) (k : ℕ) (node : Node) (fault : Option ℕ)
+    (scene : Scene)
+    → IsSceneOf look g claim k node fault scene
     → (pairs : List Pair) → node.body ≡ bodies.Pairs pairs
     → length pairs ≤ point_count g
     → All (λ q. (q.a < point_count g) × (q.b < point_count g)) pairs
     → flat_map pair_in scene.items ≡ pairs
-pairs-all g claim k node fault scene is pairs body few within =
+pairs-all look g claim k node fault scene is pairs body few within =
     let whole : take (point_count g) pairs ≡ pairs = take_all (point_count g) pairs few in
-    pairs-first g claim k node fault scene is pairs body
+    pairs-first look g claim k node fault scene is pairs body
     (subst (All (λ (q : Pair). (q.a < point_count g) × (q.b < point_count g))) (sym whole) within)
     ∙ whole
 
@@ -240,14 +266,14 @@ replies-read n (r ∷ replies) h = ap (flat_map reply_in) (flat_map-cons (reply_
     ∙ ap₂ (λ a b. a ++ b) (reply-read n r (h 0 r (omega arith)))
     (replies-read n replies (λ i d lt. h (suc i) d (omega arith)))
 
-pub replies-node : (g : Game) (claim : Claim) (k : ℕ) (node : Node) (fault : Option ℕ)
+pub replies-node : (look : Look) (g : Game) (claim : Claim) (k : ℕ) (node : Node) (fault : Option ℕ)
     (scene : Scene)
-    → IsSceneOf g claim k node fault scene
+    → IsSceneOf look g claim k node fault scene
     → (replies : List Reply) → node.body ≡ bodies.All replies
     → All (λ r. r.point < point_count g) replies
     → flat_map reply_in scene.items ≡ replies
-replies-node g claim k node fault scene is replies body within =
-    body-read reply_in (λ v mark. refl) (λ vs. refl) refl g claim k node fault scene is
+replies-node look g claim k node fault scene is replies body within =
+    body-read reply_in (λ v mark. refl) (λ vs lane. refl) refl look g claim k node fault scene is
     ∙ ap (λ (b : Body). flat_map reply_in (body_items g (position_of node) claim.side b)) body
     ∙ replies-read (point_count g) replies within
 
@@ -284,17 +310,18 @@ seconds-read g with_e first second =
     ∙ map-itself (points_below second n)))
 
 -- the edges of a node whose body draws two sets
-pub edges-node : (g : Game) (claim : Claim) (k : ℕ) (node : Node) (fault : Option ℕ) (scene : Scene)
-    → IsSceneOf g claim k node fault scene
+pub edges-node : (look : Look) (g : Game) (claim : Claim) (k : ℕ) (node : Node) (fault : Option ℕ)
+    (scene : Scene)
+    → IsSceneOf look g claim k node fault scene
     → (with_e : Bool) (first second : FinSet nat_cmp)
     → body_items g (position_of node) claim.side node.body ≡ set_items g with_e first second
     → (flat_map first_in scene.items ≡ points_below first (point_count g))
     × (flat_map second_in scene.items ≡ points_below second (point_count g))
-edges-node g claim k node fault scene is with_e first second same = (
-  body-read first_in (λ v mark. refl) (λ vs. refl) refl g claim k node fault scene is
+edges-node look g claim k node fault scene is with_e first second same = (
+  body-read first_in (λ v mark. refl) (λ vs lane. refl) refl look g claim k node fault scene is
       ∙ ap (flat_map first_in) same
       ∙ firsts-read g with_e first second,
-  body-read second_in (λ v mark. refl) (λ vs. refl) refl g claim k node fault scene is
+  body-read second_in (λ v mark. refl) (λ vs lane. refl) refl look g claim k node fault scene is
       ∙ ap (flat_map second_in) same
       ∙ seconds-read g with_e first second,
 )

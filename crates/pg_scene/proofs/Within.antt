@@ -2,7 +2,7 @@
 use Rattle.std.proofs.Common.{◌≡◌, ℕ, zero, suc, ◌+◌, ◌*◌, ◌<◌, ◌≤◌, Bool, true, false, ◌&&◌, List}
 use Rattle.std.proofs.Common.{[], ◌∷◌, ◌++◌, length, take, get_or, Option, Some, None, refl, sym}
 use Rattle.std.proofs.Common.{ap, ◌∙◌, inl, inr, subst, true≢false, arith}
-use Rattle.std.specs.Prelude.{nat_lt, ◌==◌}
+use Rattle.std.specs.Prelude.{codes, nat_lt, ◌==◌}
 use Rattle.pg_scene.proofs.Common.{FinSet, decimal, All, AllByRecursion, flat_map, range_with_len}
 use Rattle.pg_scene.proofs.Common.{nat_cmp, and_parts, cases_Bool, nat_tests, length-append}
 use Rattle.pg_scene.proofs.Common.{flat_map-cons, All-append, All-map, All-nil, Contains-get_or}
@@ -16,17 +16,25 @@ use Rattle.pg_base.proofs.MemberLemmas.{points_below-small}
 use Rattle.pg_cert.specs.declared.node.Body.TheVariants as bodies
 use Rattle.pg_game.specs.declared.field.Field.TheVariants.{Graph as OnGraph}
 use Rattle.pg_game.proofs.Greatest.{member-within}
-use Rattle.pg_scene.specs.Items.{are_drawn, body_items, fault_items, line_items, mark_of}
+use Rattle.pg_scene.specs.Items.{are_drawn, body_items, fault_items, line_item, line_items, mark_of}
 use Rattle.pg_scene.specs.Items.{member_items, numbered, pair_item, point_items, reply_item}
-use Rattle.pg_scene.specs.Items.{seen_if, set_items, step_item, units, weight_items}
+use Rattle.pg_scene.specs.Items.{seen_at, seen_if, set_items, step_item, units, weight_items}
 use Rattle.pg_scene.specs.Limits.{IsBoard, IsItemOn, IsScene, points_on, terminals_on}
+use Rattle.pg_scene.specs.Recorded.{IsSceneOfMoves, move_items, moves_by, order_if}
+use Rattle.pg_scene.specs.Recorded.{order_lines}
 use Rattle.pg_scene.specs.Scenes.{IsBoardOf, IsSceneOf, IsSceneOfGame, line_board}
-use Rattle.pg_scene.specs.Words.{body_line, game_legend, node_legend}
+use Rattle.pg_scene.specs.Legends.{bias_line, board_lines, body_lines, fault_lines, field_line}
+use Rattle.pg_scene.specs.Legends.{game_by}
+use Rattle.pg_scene.specs.Legends.{game_legend, marks_line, node_by, node_legend, node_lines}
+use Rattle.pg_scene.specs.Legends.{position_lines, said_if, sets_lines, size_line}
 use Rattle.pg_scene.specs.declared.board.Board.{Board}
 use Rattle.pg_scene.specs.declared.item.Item.{Item}
 use Rattle.pg_scene.specs.declared.item.Item.TheVariants as items
 use Rattle.pg_scene.specs.declared.item.Set.{Set}
 use Rattle.pg_scene.specs.declared.item.Set.TheVariants.{First, Second}
+use Rattle.pg_scene.specs.declared.look.Legend.{Legend}
+use Rattle.pg_scene.specs.declared.look.Legend.TheVariants.{Absent, OfBody, Whole}
+use Rattle.pg_scene.specs.declared.look.Look.{Look}
 use Rattle.pg_scene.specs.declared.scene.Scene.{Scene}
 
 -- ---- lists of items
@@ -78,19 +86,32 @@ longest-few bias = elim (cases_Bool (bias == 1)) [
   | inr several ↦ rw several (omega arith)
 ]
 
-on-lines : (board : Board) (g : Game)
+on-line : (board : Board) (g : Game) (i : ℕ)
     → point_count g ≤ points_on board
-    → All (IsItemOn board) (line_items (lines_of g))
-on-lines board g le = elim (cases_Bool (are_drawn (lines_of g))) [
-  | inl few ↦ rw few (All-map (IsItemOn board) items.Line (lines_of g) (λ k d lt.
-      let line = get_or (lines_of g) k d in
-      let fit : IsLineOf (point_count g) g.bias line =
-      line-fit g line (Contains-get_or (lines_of g) k d lt) in
-      let most = longest-few g.bias in (
-        fit.some,
-        omega (arith, fit.short, most),
-        λ i e inside. omega (arith, fit.range i e inside, le),
-      )))
+    → i < length (lines_of g)
+    → IsItemOn board (line_item (lines_of g) i)
+on-line board g i le lt =
+    let line = get_or (lines_of g) i [] in
+    let fit : IsLineOf (point_count g) g.bias line =
+    line-fit g line (Contains-get_or (lines_of g) i [] lt) in
+    let most = longest-few g.bias in (
+      fit.some,
+      omega (arith, fit.short, most),
+      λ k e inside. omega (arith, fit.range k e inside, le),
+    )
+
+on-lines : (board : Board) (seen : Bool) (g : Game)
+    → point_count g ≤ points_on board
+    → All (IsItemOn board) (line_items seen (lines_of g))
+on-lines board seen g le = elim (cases_Bool (are_drawn seen (lines_of g))) [
+  | inl few ↦ rw few
+      (All-map (IsItemOn board) (line_item (lines_of g)) (range_with_len 0 (length (lines_of g)))
+      (λ k d lt.
+      let n = length (lines_of g) in
+      let count = length-range_with_len 0 n in
+      let at : get_or (range_with_len 0 n) k d ≡ 0 + k =
+      get_or-range_with_len 0 n k d (omega (arith, count, lt)) in
+      on-line board g (get_or (range_with_len 0 n) k d) le (omega (arith, at, count, lt))))
   | inr many ↦ rw many (All-nil (IsItemOn board))
 ]
 
@@ -131,6 +152,13 @@ on-sets board g with_e first second le two =
     (member_items (point_count g) Second second) (on-members board (point_count g) First first le)
     (on-members board (point_count g) Second second le))
 
+on-steps : (board : Board) (n : ℕ) (points : List ℕ)
+    → n ≤ points_on board
+    → All (IsItemOn board) (move_items n points)
+on-steps board n points le = on-numbered (IsItemOn board) (step_item n)
+    (λ k v. on-seen (IsItemOn board) (nat_lt v n) (items.Step v k)
+    (λ h. let lt = below-of v n h in omega (arith, lt, le))) 1 points
+
 on-body : (board : Board) (g : Game) (p : Position) (side : Side) (body : Body)
     → point_count g ≤ points_on board
     → (is_graph g.field ≡ true → terminals_on board ≡ 2)
@@ -156,10 +184,7 @@ on-body board g p side (bodies.Trees with_e first second) le two =
     on-sets board g with_e first second le two
 on-body board g p side (bodies.Cuts with_e first second) le two =
     on-sets board g with_e first second le two
-on-body board g p side (bodies.Threat points) le two =
-    on-numbered (IsItemOn board) (step_item (point_count g))
-    (λ k v. on-seen (IsItemOn board) (nat_lt v (point_count g)) (items.Step v k)
-    (λ h. let lt = below-of v (point_count g) h in omega (arith, lt, le))) 1 points
+on-body board g p side (bodies.Threat points) le two = on-steps board (point_count g) points le
 on-body board g p side (bodies.Weaker child) le two = All-nil (IsItemOn board)
 
 pub on-fault : (board : Board) (fault : Option ℕ) → All (IsItemOn board) (fault_items fault)
@@ -225,32 +250,109 @@ fitting-game g board is =
 
 -- ---- scenes
 
-legend-few : (g : Game) (p : Position) → length (game_legend g p) ≤ 3
-legend-few g p = elim (cases_Bool (are_drawn (lines_of g))) [
-  | inl few ↦ rw few (omega arith)
-  | inr many ↦ rw many (omega arith)
-]
+said-few : (b : Bool) (line : List ℕ) → length (said_if b line) ≤ 1
+said-few true line = omega arith
+said-few false line = omega arith
 
-pub IsScene-game : (g : Game) (scene : Scene) → IsSceneOfGame g scene → IsScene scene
-IsScene-game g scene is =
+board-few : (look : Look) (g : Game) → length (board_lines look g) ≤ 4
+board-few look g =
+    let bias = bias_line g.kind g.bias in
+    let last = marks_line g.kind ∷ size_line look.numbers g.field
+    ∷ field_line look.lines g.field ∷ [] in
+    let few = said-few (nat_lt 1 g.bias) bias in
+    omega (arith, few, length-append (said_if (nat_lt 1 g.bias) bias) last)
+
+position-few : (look : Look) (g : Game) (p : Position) → length (position_lines look g p) ≤ 5
+position-few look g p =
+    let few = board-few look g in
+    omega (arith, few)
+
+order_if-few : (b : Bool) → length (order_if b) ≤ 2
+order_if-few true = omega arith
+order_if-few false = omega arith
+
+order-few : (moves : List ℕ) → length (order_lines moves) ≤ 2
+order-few moves = order_if-few (nat_lt 0 (length moves))
+
+moves-few : (legend : Legend) (look : Look) (g : Game) (p : Position) (over : Bool)
+    (moves : List ℕ)
+    → length (moves_by legend look g p over moves) ≤ 7
+moves-few Absent look g p over moves = omega arith
+moves-few OfBody look g p over moves =
+    let few = order-few moves in
+    omega (arith, few)
+moves-few Whole look g p over moves =
+    let board = board-few look g in
+    let order = order-few moves in
+    omega (arith, board, order, length-append (board_lines look g) (order_lines moves))
+
+game-few : (legend : Legend) (look : Look) (g : Game) (p : Position)
+    → length (game_by legend look g p) ≤ 5
+game-few Absent look g p = omega arith
+game-few OfBody look g p = omega arith
+game-few Whole look g p = position-few look g p
+
+sets-few : (with_e : Bool) (does : List ℕ) → length (sets_lines with_e does) ≤ 4
+sets-few with_e does =
+    let few = said-few with_e (codes "e: an extra edge, in the first set") in
+    omega (arith, few)
+
+body-few : (g : Game) (p : Position) (side : Side) (body : Body)
+    → length (body_lines g p side body) ≤ 4
+body-few g p side bodies.Over = omega arith
+body-few g p side (bodies.Move v child) = omega arith
+body-few g p side (bodies.All replies) = omega arith
+body-few g p side (bodies.Pairs pairs) = omega arith
+body-few g p side bodies.Potential = omega arith
+body-few g p side (bodies.Trees with_e first second) =
+    sets-few with_e (codes "each set joins the terminals")
+body-few g p side (bodies.Cuts with_e first second) =
+    sets-few with_e (codes "each set separates the terminals")
+body-few g p side (bodies.Threat points) = omega arith
+body-few g p side (bodies.Weaker child) = omega arith
+
+pub fault-few : (fault : Option ℕ) → length (fault_lines fault) ≤ 1
+fault-few (Some why) = omega arith
+fault-few None = omega arith
+
+node-few : (legend : Legend) (look : Look) (g : Game) (claim : Claim) (p : Position) (body : Body)
+    (fault : Option ℕ)
+    → length (node_by legend look g claim p body fault) ≤ 11
+node-few Absent look g claim p body fault = omega arith
+node-few OfBody look g claim p body fault =
+    let few = body-few g p claim.side body in
+    omega (arith, few)
+node-few Whole look g claim p body fault =
+    let position = position-few look g p in
+    let few = body-few g p claim.side body in
+    let faulty = fault-few fault in
+    let all = length-append (node_lines look g claim p body) (fault_lines fault) in
+    let inner = length-append (position_lines look g p) (body_lines g p claim.side body) in
+    omega (arith, position, few, faulty, all, inner)
+
+pub IsScene-game : (look : Look) (g : Game) (scene : Scene)
+    → IsSceneOfGame look g scene
+    → IsScene scene
+IsScene-game look g scene is =
     let fit = fitting-game g scene.board is.board in
     let le : point_count g ≤ points_on scene.board = omega (arith, fit.points) in
+    let p = seen_at look.blank (start g) in
     record {
       board = fit.is_board;
       items = subst (All (IsItemOn scene.board)) (sym is.items)
-          (All-append (IsItemOn scene.board) (point_items (point_count g) (start g))
-          (line_items (lines_of g)) (on-points scene.board (point_count g) (start g) le)
-          (on-lines scene.board g le));
+          (All-append (IsItemOn scene.board) (point_items (point_count g) p)
+          (line_items look.lines (lines_of g)) (on-points scene.board (point_count g) p le)
+          (on-lines scene.board look.lines g le));
       few_lines =
-          let same : length scene.legend ≡ length (game_legend g (start g)) = ap length is.legend in
-          omega (arith, same, legend-few g (start g));
+          let same : length scene.legend ≡ length (game_legend look g p) = ap length is.legend in
+          omega (arith, same, game-few look.legend look g p);
     }
 
-pub IsScene-node : (g : Game) (claim : Claim) (number : ℕ) (node : Node) (fault : Option ℕ)
-    (scene : Scene)
-    → IsSceneOf g claim number node fault scene
+pub IsScene-node : (look : Look) (g : Game) (claim : Claim) (number : ℕ) (node : Node)
+    (fault : Option ℕ) (scene : Scene)
+    → IsSceneOf look g claim number node fault scene
     → IsScene scene
-IsScene-node g claim number node fault scene is =
+IsScene-node look g claim number node fault scene is =
     let fit = fitting-game g scene.board is.board in
     let on = IsItemOn scene.board in
     let le : point_count g ≤ points_on scene.board = omega (arith, fit.points) in
@@ -259,19 +361,41 @@ IsScene-node g claim number node fault scene is =
       board = fit.is_board;
       items = subst (All on) (sym is.items)
           (All-append on (point_items (point_count g) (position_of node))
-          (line_items (lines_of g) ++ (body ++ fault_items fault))
+          (line_items look.lines (lines_of g) ++ (body ++ fault_items fault))
           (on-points scene.board (point_count g) (position_of node) le)
-          (All-append on (line_items (lines_of g)) (body ++ fault_items fault)
-          (on-lines scene.board g le) (All-append on body (fault_items fault) (on-body scene.board g
-          (position_of node) claim.side node.body le fit.two) (on-fault scene.board fault))));
+          (All-append on (line_items look.lines (lines_of g)) (body ++ fault_items fault)
+          (on-lines scene.board look.lines g le) (All-append on body (fault_items fault)
+          (on-body scene.board g (position_of node) claim.side node.body le fit.two)
+          (on-fault scene.board fault))));
       few_lines =
           let same : length scene.legend
-          ≡ length (node_legend g (position_of node) claim.side node.body) = ap length is.legend in
+          ≡ length (node_legend look g claim (position_of node) node.body fault) =
+          ap length is.legend in
           omega (
             arith,
             same,
-            legend-few g (position_of node),
-            length-append (game_legend g (position_of node))
-                (body_line g (position_of node) claim.side node.body ∷ []),
+            node-few look.legend look g claim (position_of node) node.body fault,
           );
+    }
+
+pub IsScene-moves : (look : Look) (g : Game) (p : Position) (over : Bool) (moves : List ℕ)
+    (scene : Scene)
+    → IsSceneOfMoves look g p over moves scene
+    → IsScene scene
+IsScene-moves look g p over moves scene is =
+    let fit = fitting-game g scene.board is.board in
+    let on = IsItemOn scene.board in
+    let n = point_count g in
+    let le : n ≤ points_on scene.board = omega (arith, fit.points) in
+    record {
+      board = fit.is_board;
+      items = subst (All on) (sym is.items)
+          (All-append on (point_items n p)
+          (line_items look.lines (lines_of g) ++ move_items n moves) (on-points scene.board n p le)
+          (All-append on (line_items look.lines (lines_of g)) (move_items n moves)
+          (on-lines scene.board look.lines g le) (on-steps scene.board n moves le)));
+      few_lines =
+          let same : length scene.legend ≡ length (moves_by look.legend look g p over moves) =
+          ap length is.legend in
+          omega (arith, same, moves-few look.legend look g p over moves);
     }

@@ -1,12 +1,14 @@
 -- What is to be seen on a board, of a position, of lines, and of the bodies of nodes.
-use Rattle.std.specs.Prelude.{ℕ, suc, ◌+◌, ◌-◌, ◌^◌, max, nat_lt, nat_le, Bool, true, false, ◌&&◌}
-use Rattle.std.specs.Prelude.{List, [], ◌∷◌, ◌++◌, length, map, take, Option, Some, None}
-use Rattle.std.specs.Prelude.{if◌then◌else◌}
-use Rattle.pg_scene.specs.Prelude.{FinSet, contains, decimal, count_by, flat_map, range_with_len}
-use Rattle.pg_scene.specs.Prelude.{sum_by, nat_cmp, points_below, Kind, AvoiderEnforcer, Pair, Side}
+use Rattle.std.specs.Prelude.{ℕ, zero, suc, ◌+◌, ◌-◌, ◌^◌, max, nat_eq, nat_lt, nat_le, Bool, true}
+use Rattle.std.specs.Prelude.{false, ◌&&◌, List, [], ◌∷◌, ◌++◌, length, map, take, get_or, Option}
+use Rattle.std.specs.Prelude.{Some, None, if◌then◌else◌}
+use Rattle.pg_scene.specs.Prelude.{FinSet, contains, decimal, count_by, flat_map, list_any}
+use Rattle.pg_scene.specs.Prelude.{range_with_len, sum_by, nat_cmp, points_below, Kind}
+use Rattle.pg_scene.specs.Prelude.{AvoiderEnforcer, Pair, Side}
 use Rattle.pg_scene.specs.Prelude.{Body, Reply, is_graph, free_points, is_touched, lines_of}
 use Rattle.pg_scene.specs.Prelude.{point_count, is_free, points_of, greatest_length, is_on}
 use Rattle.pg_scene.specs.Prelude.{line_weight, Game, Position}
+use Rattle.std.specs.FinSet.{empty}
 use Rattle.pg_base.specs.declared.side.Side.TheVariants.{X, Y}
 use Rattle.pg_cert.specs.declared.node.Body.TheVariants as bodies
 use Rattle.pg_scene.specs.declared.item.Item.{Item}
@@ -35,13 +37,35 @@ mark_of p v = if contains p.x v then Some X else if contains p.y v then Some Y e
 abbrev pub point_items : ℕ → Position → List Item
 point_items n p = map (λ v. items.Point v (mark_of p v)) (range_with_len 0 n)
 
--- whether there are few enough lines to draw them
-abbrev pub are_drawn : List (List ℕ) → Bool
-are_drawn lines = nat_le (length lines) MAX_DRAWN_LINES
+-- whether there are few enough lines to draw them, if they are to be seen
+abbrev pub are_drawn : Bool → List (List ℕ) → Bool
+are_drawn seen lines = seen && nat_le (length lines) MAX_DRAWN_LINES
 
--- the lines, where they are few enough
-abbrev pub line_items : List (List ℕ) → List Item
-line_items lines = if are_drawn lines then map items.Line lines else []
+-- whether two lines may lie over one another: they have two points in common
+abbrev pub overlap : List ℕ → List ℕ → Bool
+overlap line other = nat_le 2 (count_by (λ v. list_any (nat_eq v) other) line)
+
+-- the lane of a line after the first j: the next after that of the last of these which it may lie
+-- over
+unfoldable pub lane_after : List (List ℕ) → ℕ → List ℕ → ℕ
+lane_after lines zero line = 0
+lane_after lines (suc j) line = if overlap line (get_or lines j [])
+    then suc (lane_after lines j (get_or lines j []))
+    else lane_after lines j line
+
+-- the line of that number, in its lane
+abbrev pub line_item : List (List ℕ) → ℕ → Item
+line_item lines i = items.Line (get_or lines i []) (lane_after lines i (get_or lines i []))
+
+-- the lines, if they are to be seen and few enough
+abbrev pub line_items : Bool → List (List ℕ) → List Item
+line_items seen lines =
+    if are_drawn seen lines then map (line_item lines) (range_with_len 0 (length lines)) else []
+
+-- the position without marks, in place of another, if the boards are to be blank
+abbrev pub seen_at : Option ℕ → Position → Position
+seen_at None p = p
+seen_at (Some count) p = record { x = empty; y = empty; turn = p.turn; left = p.left }
 
 -- ---- a potential
 

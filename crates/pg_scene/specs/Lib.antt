@@ -2,6 +2,9 @@ pub mod Prelude
 pub mod Limits
 pub mod Items
 pub mod Words
+pub mod Legends
+pub mod Look
 pub mod Scenes
 pub mod Read
 pub mod SpanScenes
+pub mod Recorded

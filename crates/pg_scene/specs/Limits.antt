@@ -64,7 +64,7 @@ terminals_on (Graph vertices ends terminals bridge) = length terminals
 -- an item that can stand on the board
 abbrev pub IsItemOn : Board → Item → Type 0
 IsItemOn board (Point v mark) = v < points_on board
-IsItemOn board (Line vs) =
+IsItemOn board (Line vs lane) =
     (1 ≤ length vs) × (length vs ≤ MAX_LINE_POINTS) × All (λ v. v < points_on board) vs
 IsItemOn board (Pair v w number) = (v < points_on board) × (w < points_on board)
 IsItemOn board (Weight v weight) = v < points_on board

@@ -6,11 +6,13 @@ use Rattle.pg_scene.specs.Prelude.{Lines, Game}
 use Rattle.pg_cert.specs.declared.cert.Cert.{Cert}
 use Rattle.pg_game.specs.declared.field.Field.TheVariants.{Graph as OnGraph}
 use Rattle.pg_base.specs.declared.grid.Grid.{Grid as Cells}
-use Rattle.pg_scene.specs.Items.{body_items, fault_items, line_items, point_items}
+use Rattle.pg_scene.specs.Items.{body_items, fault_items, line_items, point_items, seen_at}
 use Rattle.pg_scene.specs.Limits.{IsBridge}
-use Rattle.pg_scene.specs.Words.{game_legend, game_title, node_legend, node_title}
+use Rattle.pg_scene.specs.Legends.{game_legend, node_legend}
+use Rattle.pg_scene.specs.Words.{kind_title, node_title}
 use Rattle.pg_scene.specs.declared.board.Board.{Board}
 use Rattle.pg_scene.specs.declared.board.Board.TheVariants.{Grid, Ring, Graph}
+use Rattle.pg_scene.specs.declared.look.Look.{Look}
 use Rattle.pg_scene.specs.declared.scene.Scene.{Scene}
 
 -- ---- boards
@@ -35,23 +37,25 @@ IsBoardOf (OnGraph h) board = IsDrawnGraph h.vertices h.ends (h.s ∷ h.t ∷ []
 
 -- ---- scenes
 
--- a game: its points with their marks, and its lines
-pub record IsSceneOfGame (g : Game) (scene : Scene) : Type 0 where
-  pub title : scene.title ≡ game_title g.field
+-- a game: its points with their marks, or without marks on blank boards, and its lines
+pub record IsSceneOfGame (look : Look) (g : Game) (scene : Scene) : Type 0 where
+  pub title : scene.title ≡ kind_title g.kind
   pub board : IsBoardOf g.field scene.board
-  pub items : scene.items ≡ point_items (point_count g) (start g) ++ line_items (lines_of g)
-  pub legend : scene.legend ≡ game_legend g (start g)
+  pub items : scene.items
+      ≡ point_items (point_count g) (seen_at look.blank (start g))
+      ++ line_items look.lines (lines_of g)
+  pub legend : scene.legend ≡ game_legend look g (seen_at look.blank (start g))
 
 -- a node of a claim: the game's points with the marks that the node says, the lines, what the body
 -- names, and whether the node is faulty
-pub record IsSceneOf (g : Game) (claim : Claim) (number : ℕ) (node : Node) (fault : Option ℕ)
-    (scene : Scene) : Type 0 where
-  pub title : scene.title ≡ node_title claim number fault
+pub record IsSceneOf (look : Look) (g : Game) (claim : Claim) (number : ℕ) (node : Node)
+    (fault : Option ℕ) (scene : Scene) : Type 0 where
+  pub title : scene.title ≡ node_title g.kind claim number fault
   pub board : IsBoardOf g.field scene.board
   pub items : scene.items
-      ≡ point_items (point_count g) (position_of node) ++ (line_items (lines_of g)
+      ≡ point_items (point_count g) (position_of node) ++ (line_items look.lines (lines_of g)
       ++ (body_items g (position_of node) claim.side node.body ++ fault_items fault))
-  pub legend : scene.legend ≡ node_legend g (position_of node) claim.side node.body
+  pub legend : scene.legend ≡ node_legend look g claim (position_of node) node.body fault
 
 -- the certificate's claim and node of these numbers
 pub record AreNamed (c : Cert) (claim number : ℕ) (whole : Claim) (node : Node) : Type 0 where
@@ -59,12 +63,12 @@ pub record AreNamed (c : Cert) (claim number : ℕ) (whole : Claim) (node : Node
   pub node_at : slice_get whole.nodes number ≡ Some node
 
 -- the node of that number, of the certificate's claim of that number
-pub record IsSceneOfNode (g : Game) (c : Cert) (claim number : ℕ) (fault : Option ℕ)
-    (scene : Scene) : Type 0 where
+pub record IsSceneOfNode (look : Look) (g : Game) (c : Cert) (claim number : ℕ)
+    (fault : Option ℕ) (scene : Scene) : Type 0 where
   pub whole : Claim
   pub node : Node
   pub named : AreNamed c claim number whole node
-  pub shown : IsSceneOf g whole number node fault scene
+  pub shown : IsSceneOf look g whole number node fault scene
 
 -- the certificate has no such node
 abbrev pub LacksNode : Cert → ℕ → ℕ → Type 0

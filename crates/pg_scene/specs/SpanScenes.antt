@@ -1,15 +1,21 @@
 -- What is to be seen of a connectivity game, and of a claim of its certificate.
-use Rattle.std.specs.Prelude.{◌≡◌, ℕ, nat_lt, List, [], ◌∷◌, ◌++◌, length, codes, Option, Some}
-use Rattle.std.specs.Prelude.{None, slice_get}
-use Rattle.pg_scene.specs.Prelude.{side_word, Position, edge_count, marks_at, SpanBody, Trees}
-use Rattle.pg_scene.specs.Prelude.{Parts, SpanClaim, SpanGame, count_text}
+use Rattle.std.specs.Prelude.{◌≡◌, ℕ, nat_lt, false, List, [], ◌∷◌, ◌++◌, length, codes, Option}
+use Rattle.std.specs.Prelude.{Some, None, slice_get}
+use Rattle.pg_scene.specs.Prelude.{decimal, MakerBreaker, Position, Side, edge_count, marks_at}
+use Rattle.pg_scene.specs.Prelude.{SpanBody, Trees, Parts, SpanClaim, SpanGame}
+use Rattle.pg_base.specs.declared.goal.Goal.TheVariants.{Win}
 use Rattle.pg_span.specs.declared.cert.SpanCert.{SpanCert}
-use Rattle.pg_scene.specs.Items.{fault_items, member_items, numbered, point_items, seen_if}
+use Rattle.pg_scene.specs.Items.{fault_items, member_items, numbered, point_items, seen_at}
+use Rattle.pg_scene.specs.Items.{seen_if}
+use Rattle.pg_scene.specs.Legends.{claim_line, fault_lines, graph_line, sets_lines, turn_line}
 use Rattle.pg_scene.specs.Scenes.{IsDrawnGraph}
-use Rattle.pg_scene.specs.Words.{size_text, turn_line}
+use Rattle.pg_scene.specs.Words.{result_words}
 use Rattle.pg_scene.specs.declared.item.Item.{Item}
 use Rattle.pg_scene.specs.declared.item.Item.TheVariants.{Step, Part}
 use Rattle.pg_scene.specs.declared.item.Set.TheVariants.{First, Second}
+use Rattle.pg_scene.specs.declared.look.Legend.{Legend}
+use Rattle.pg_scene.specs.declared.look.Legend.TheVariants.{Absent, OfBody, Whole}
+use Rattle.pg_scene.specs.declared.look.Look.{Look}
 use Rattle.pg_scene.specs.declared.scene.Scene.{Scene}
 
 -- ---- items
@@ -29,50 +35,77 @@ span_items g (Trees first a1 a2) = first_items (edge_count g.graph) first
     ++ (member_items (edge_count g.graph) First a1 ++ member_items (edge_count g.graph) Second a2)
 span_items g (Parts parts) = numbered (part_item g.graph.vertices) 0 parts
 
--- ---- words
+-- ---- titles
 
--- a claim: who moves first, and the side that wins
-abbrev pub span_claim_text : SpanClaim → List ℕ
-span_claim_text claim = codes "claim "
-    ++ (side_word claim.turn ++ (codes " " ++ (side_word claim.side ++ codes " win")))
+-- a claim: what its side reaches; or, of an invalid claim, the number of its fault
+abbrev pub span_title : Side → Option ℕ → List ℕ
+span_title side None = result_words MakerBreaker side Win
+span_title side (Some why) = codes "Claim rejected: S" ++ decimal why
 
--- why a claim is rejected, where it is
-abbrev pub span_fault_text : Option ℕ → List ℕ
-span_fault_text (Some why) = count_text (codes ": rejected S") why []
-span_fault_text None = []
+-- ---- legends
 
--- what is said of a position
-abbrev pub span_legend : Position → List (List ℕ)
-span_legend p = codes "kind connectivity" ∷ turn_line p ∷ []
+-- what is said of a game and a position
+abbrev pub span_position_lines : Look → SpanGame → Position → List (List ℕ)
+span_position_lines look g p = turn_line MakerBreaker p
+    ∷ codes "thick: Maker's edges; dotted: Breaker's"
+    ∷ graph_line look.numbers g.graph.vertices (length g.graph.ends) ∷ []
 
--- what the items of a body are
-abbrev pub span_line : SpanBody → List ℕ
-span_line (Trees first a1 a2) =
-    codes "trees: a first and a second set of edges, each of which joins all vertices"
-span_line (Parts parts) = codes "parts: the vertices with the numbers of their parts"
+-- that an edge is claimed first, if one is
+abbrev pub first_lines : Option ℕ → List (List ℕ)
+first_lines (Some v) = codes "1 in a ring: the edge that Maker claims first;" ∷ []
+first_lines None = []
+
+-- what a body names
+abbrev pub span_lines : SpanBody → List (List ℕ)
+span_lines (Trees first a1 a2) =
+    first_lines first ++ sets_lines false (codes "each set joins all vertices")
+span_lines (Parts parts) = codes "in rings: the numbers of the vertices' parts" ∷ []
+
+-- what is said of a claim
+abbrev pub span_claim_lines : Look → SpanGame → SpanClaim → List (List ℕ)
+span_claim_lines look g claim = claim_line MakerBreaker claim.turn claim.side Win
+    ∷ span_position_lines look g (marks_at g claim.turn) ++ span_lines claim.body
+
+-- the legend of a game
+abbrev pub span_game_by : Legend → Look → SpanGame → List (List ℕ)
+span_game_by Absent look g = []
+span_game_by OfBody look g = []
+span_game_by Whole look g =
+    span_position_lines look g (seen_at look.blank (marks_at g g.turn))
+
+-- the legend of a claim: first as if it were valid
+abbrev pub span_said_by : Legend → Look → SpanGame → SpanClaim → List (List ℕ)
+span_said_by Absent look g claim = []
+span_said_by OfBody look g claim = span_lines claim.body
+span_said_by Whole look g claim = span_claim_lines look g claim
+
+abbrev pub span_by : Legend → Look → SpanGame → SpanClaim → Option ℕ → List (List ℕ)
+span_by Absent look g claim fault = []
+span_by OfBody look g claim fault = span_lines claim.body
+span_by Whole look g claim fault = span_claim_lines look g claim ++ fault_lines fault
 
 -- ---- scenes
 
--- a game: its edges with their marks
-pub record IsSceneOfSpanGame (g : SpanGame) (scene : Scene) : Type 0 where
-  pub title : scene.title
-      ≡ size_text g.graph.vertices (codes " vertices ") (length g.graph.ends) (codes " edges")
+-- a game: its edges with their marks, or without marks on blank boards
+pub record IsSceneOfSpanGame (look : Look) (g : SpanGame) (scene : Scene) : Type 0 where
+  pub title : scene.title ≡ codes "Connectivity game"
   pub board : IsDrawnGraph g.graph.vertices g.graph.ends [] scene.board
-  pub items : scene.items ≡ point_items (edge_count g.graph) (marks_at g g.turn)
-  pub legend : scene.legend ≡ span_legend (marks_at g g.turn)
+  pub items : scene.items
+      ≡ point_items (edge_count g.graph) (seen_at look.blank (marks_at g g.turn))
+  pub legend : scene.legend ≡ span_game_by look.legend look g
 
 -- a claim: the edges with the game's marks, what the body names, and whether the claim is faulty
-pub record IsSceneOfSpan (g : SpanGame) (claim : SpanClaim) (fault : Option ℕ)
+pub record IsSceneOfSpan (look : Look) (g : SpanGame) (claim : SpanClaim) (fault : Option ℕ)
     (scene : Scene) : Type 0 where
-  pub title : scene.title ≡ span_claim_text claim ++ span_fault_text fault
+  pub title : scene.title ≡ span_title claim.side fault
   pub board : IsDrawnGraph g.graph.vertices g.graph.ends [] scene.board
   pub items : scene.items ≡ point_items (edge_count g.graph) (marks_at g claim.turn)
       ++ (span_items g claim.body ++ fault_items fault)
-  pub legend : scene.legend ≡ span_legend (marks_at g claim.turn) ++ span_line claim.body ∷ []
+  pub legend : scene.legend ≡ span_by look.legend look g claim fault
 
 -- the certificate's claim of that number
-pub record IsSceneOfSpanClaim (g : SpanGame) (c : SpanCert) (claim : ℕ) (fault : Option ℕ)
-    (scene : Scene) : Type 0 where
+pub record IsSceneOfSpanClaim (look : Look) (g : SpanGame) (c : SpanCert) (claim : ℕ)
+    (fault : Option ℕ) (scene : Scene) : Type 0 where
   pub whole : SpanClaim
   pub named : slice_get c.claims claim ≡ Some whole
-  pub shown : IsSceneOfSpan g whole fault scene
+  pub shown : IsSceneOfSpan look g whole fault scene

@@ -28,6 +28,8 @@ pub enum Item {
     Line {
         /// Its points in ascending order.
         points: Points,
+        /// Its lane: lines that may lie over one another are drawn in different lanes.
+        lane: usize,
     },
     /// Two points, of which a side answers one with the other.
     Pair {

@@ -1,6 +1,7 @@
 //! Lines.
-ghost use Rattle.std.specs.Prelude.{◌≡◌, ◌++◌, IfOk, OnOk};
-ghost use Rattle.pg_scene.specs.Items.{are_drawn, line_items};
+ghost use Rattle.std.specs.Prelude.{◌≡◌, ◌<◌, ◌++◌, ◌∷◌, [], IfOk, OnOk, get_or, length, nat_eq};
+ghost use Rattle.pg_scene.specs.Prelude.{list_any};
+ghost use Rattle.pg_scene.specs.Items.{are_drawn, lane_after, line_item, line_items, overlap};
 
 use crate::item::Item;
 use pg_base::{Line, Memory, Points};
@@ -12,11 +13,50 @@ pub const MAX_DRAWN_LINES: usize = 30;
 /// The most lines of a legend, so that a picture stays within numbers that it can say.
 pub const MAX_LEGEND_LINES: usize = 1000;
 
-/// Whether there are few enough lines to draw them.
-pub(crate) fn are_drawn(lines: &[Line]) -> bool
-    ensures { result ≡ are_drawn lines.now }
+/// Whether there are few enough lines to draw them, if they are to be seen.
+pub(crate) fn are_drawn(seen: bool, lines: &[Line]) -> bool
+    ensures { result ≡ are_drawn seen lines.now }
 {
-    lines.len() <= MAX_DRAWN_LINES
+    seen && lines.len() <= MAX_DRAWN_LINES
+}
+
+/// Whether a line has the point.
+fn has(line: &Line, v: u16) -> bool
+    ensures { result ≡ list_any (nat_eq v) line.now }
+{
+    let points = line.as_slice();
+    points.contains(&v)
+}
+
+/// Whether two lines may lie over one another: they have two points in common.
+fn overlap(line: &Line, other: &Line) -> bool
+    ensures { result ≡ overlap line.now other.now }
+{
+    let mut common: usize = 0;
+    for v in line.as_slice() {
+        if has(other, *v) {
+            common += 1;
+        }
+    }
+    common >= 2
+}
+
+/// The lane of the line of that number.
+fn lane_of(lines: &[Line], i: usize) -> usize
+    requires { i < length lines.now }
+    ensures { result ≡ lane_after lines.now i (get_or lines.now i []) }
+{
+    let mut lane = 0;
+    let mut last = i;
+    let mut left = i;
+    while left > 0 {
+        left -= 1;
+        if overlap(&lines[last], &lines[left]) {
+            lane += 1;
+            last = left;
+        }
+    }
+    lane
 }
 
 /// The points of a line.
@@ -26,17 +66,31 @@ fn points_of(alloc: Global, line: &Line) -> Result<Points, Memory>
     Ok(Points::from_vec(line.as_slice().to_vec(alloc)?))
 }
 
-/// Puts the lines, where they are few enough.
-pub(crate) fn put_lines(alloc: Global, items: &mut Vec<Item>, lines: &[Line]) -> Result<(), Memory>
-    ensures { OnOk result (items.new.items ≡ items.old.items ++ line_items lines.now) }
+/// Puts the line of that number.
+fn put_line_of(alloc: Global, items: &mut Vec<Item>, lines: &[Line], i: usize) -> Result<(), Memory>
+    requires { i < length lines.now }
+    ensures { OnOk result (items.new.items ≡ items.old.items ++ line_item lines.now i ∷ []) }
 {
-    if !are_drawn(lines) {
+    let lane = lane_of(lines, i);
+    let points = points_of(alloc, &lines[i])?;
+    items.push(Item::Line { points, lane })?;
+    Ok(())
+}
+
+/// Puts the lines, if they are to be seen and few enough.
+pub(crate) fn put_lines(
+    alloc: Global,
+    items: &mut Vec<Item>,
+    seen: bool,
+    lines: &[Line],
+) -> Result<(), Memory>
+    ensures { OnOk result (items.new.items ≡ items.old.items ++ line_items seen lines.now) }
+{
+    if !are_drawn(seen, lines) {
         return Ok(());
     }
-    for line in lines {
-        items.push(Item::Line {
-            points: points_of(alloc, line)?,
-        })?;
+    for i in 0..lines.len() {
+        put_line_of(alloc, items, lines, i)?;
     }
     Ok(())
 }

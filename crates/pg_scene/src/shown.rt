@@ -7,60 +7,66 @@ ghost use Rattle.pg_scene.specs.Scenes.{IsSceneOf, IsSceneOfGame, IsSceneOfNode,
 use crate::bodies::{put_body, put_fault};
 use crate::bridge::board_of;
 use crate::item::{Item, Items};
+use crate::legend::{game_legend, node_legend};
 use crate::lines::put_lines;
-use crate::points::put_points;
+use crate::look::Look;
+use crate::points::{put_points, seen_at};
 use crate::scene::Scene;
-use crate::words::{game_legend, game_title, node_legend, node_title};
+use crate::words::{game_title, node_title};
 use pg_base::{Memory, Side};
 use pg_cert::{Cert, Claim, Node};
 use pg_game::{Game, Position};
 use std::alloc::Global;
 
 /// The points with their marks, and the lines.
-fn game_items(alloc: Global, g: &Game, p: &Position) -> Result<Vec<Item>, Memory>
+fn game_items(alloc: Global, look: Look, g: &Game, p: &Position) -> Result<Vec<Item>, Memory>
     ensures { IfOk result (λ items. items.items
-        ≡ point_items (point_count g.now) p.now ++ line_items (lines_of g.now)) }
+        ≡ point_items (point_count g.now) p.now ++ line_items look.lines (lines_of g.now)) }
 {
     let mut items = Vec::new(alloc);
     put_points(&mut items, g.points(), p)?;
-    put_lines(alloc, &mut items, g.lines())?;
+    put_lines(alloc, &mut items, look.lines, g.lines())?;
     Ok(items)
 }
 
 /// What is to be seen of a node of a claim of that side.
 fn node_items(
     alloc: Global,
+    look: Look,
     g: &Game,
     side: Side,
     node: &Node,
     fault: Option<u8>,
 ) -> Result<Items, Memory>
     ensures { IfOk result (λ items. items
-        ≡ point_items (point_count g.now) (position_of node.now) ++ (line_items (lines_of g.now)
+        ≡ point_items (point_count g.now) (position_of node.now)
+        ++ (line_items look.lines (lines_of g.now)
         ++ (body_items g.now (position_of node.now) side node.now.body ++ fault_items fault))) }
 {
     let p = node.position();
-    let mut items = game_items(alloc, g, &p)?;
+    let mut items = game_items(alloc, look, g, &p)?;
     put_body(alloc, &mut items, g, &p, side, &node.body)?;
     put_fault(&mut items, fault)?;
     Ok(Items::from_vec(items))
 }
 
-/// What is to be seen of a game: its board, each point with its mark, and each line where there are
-/// at most 30 of them. The title says how large the game is; the legend says its kind, who is to
-/// move, and how many lines there are where they aren't drawn.
+/// Returns what is to be seen of a game: its board, each point with its mark, and each line if
+/// `look` has lines and there are at most 30 of them; or the board without marks, if `look` says
+/// how many blank boards are drawn. The title is the game's kind; the legend, if `look` has it,
+/// says who is to move, how the points of the sides look, how large the game is, and how many lines
+/// there are.
 ///
 /// # Errors
 ///
-/// Want of memory alone.
-pub fn scene_of_game(alloc: Global, game: &Game) -> Result<Scene, Memory>
-    ensures { IfOk result (IsSceneOfGame game.now) }
+/// `Memory` if memory ran out.
+pub fn scene_of_game(alloc: Global, game: &Game, look: Look) -> Result<Scene, Memory>
+    ensures { IfOk result (IsSceneOfGame look game.now) }
 {
-    let p = game.start();
-    let title = game_title(alloc, &game.field)?;
+    let p = seen_at(look.blank, game.start());
+    let title = game_title(alloc, game.kind)?;
     let board = board_of(alloc, &game.field)?;
-    let items = Items::from_vec(game_items(alloc, game, &p)?);
-    let legend = game_legend(alloc, game, &p)?;
+    let items = Items::from_vec(game_items(alloc, look, game, &p)?);
+    let legend = game_legend(alloc, look, game, &p)?;
     Ok(Scene {
         title,
         board,
@@ -72,19 +78,20 @@ pub fn scene_of_game(alloc: Global, game: &Game) -> Result<Scene, Memory>
 /// What is to be seen of a claim's node of that number.
 fn node_scene(
     alloc: Global,
+    look: Look,
     g: &Game,
     claim: &Claim,
     number: u32,
     node: &Node,
     fault: Option<u8>,
 ) -> Result<Scene, Memory>
-    ensures { IfOk result (IsSceneOf g.now claim.now number node.now fault) }
+    ensures { IfOk result (IsSceneOf look g.now claim.now number node.now fault) }
 {
     let p = node.position();
-    let title = node_title(alloc, claim, number, fault)?;
+    let title = node_title(alloc, g.kind, claim, number, fault)?;
     let board = board_of(alloc, &g.field)?;
-    let items = node_items(alloc, g, claim.side, node, fault)?;
-    let legend = node_legend(alloc, g, &p, claim.side, &node.body)?;
+    let items = node_items(alloc, look, g, claim.side, node, fault)?;
+    let legend = node_legend(alloc, look, g, claim, &p, &node.body, fault)?;
     Ok(Scene {
         title,
         board,
@@ -93,17 +100,17 @@ fn node_scene(
     })
 }
 
-/// What is to be seen of the node of that number, of the certificate's claim of that number, both
-/// counted from 0: the game's board, each point with the mark that it has at the node, each line
-/// where there are at most 30 of them, and what the body names; of all these the points of the game
-/// alone. None comes exactly where the certificate has no such node.
+/// Returns what is to be seen of the node of that number, of the certificate's claim of that
+/// number, both counted from 0: the game's board, each point with the mark that it has at the node,
+/// each line if `look` has lines and there are at most 30 of them, and what the body names; of all
+/// these the points of the game alone. None comes exactly if the certificate has no such node.
 ///
-/// `fault` is the number of the node's fault, where it is a faulty one; the title says it, and the
-/// node is shown as faulty.
+/// `fault` is the number of the node's fault, if it is invalid; the title says it, and the node is
+/// crossed.
 ///
 /// # Errors
 ///
-/// Want of memory alone.
+/// `Memory` if memory ran out.
 pub fn scene_of_node(
     alloc: Global,
     game: &Game,
@@ -111,9 +118,10 @@ pub fn scene_of_node(
     claim: u32,
     node: u32,
     fault: Option<u8>,
+    look: Look,
 ) -> Result<Option<Scene>, Memory>
     ensures scene { IfOk result
-        (λ found. IfSome found (IsSceneOfNode game.now cert.now claim node fault)) }
+        (λ found. IfSome found (IsSceneOfNode look game.now cert.now claim node fault)) }
     ensures none { IfOk result (λ found. IfNone found (LacksNode cert.now claim node)) }
 {
     let Some(whole) = cert.claims.as_slice().get(claim as usize) else {
@@ -122,5 +130,5 @@ pub fn scene_of_node(
     let Some(part) = whole.nodes.as_slice().get(node as usize) else {
         return Ok(None);
     };
-    Ok(Some(node_scene(alloc, game, whole, node, part, fault)?))
+    Ok(Some(node_scene(alloc, look, game, whole, node, part, fault)?))
 }

@@ -5,4 +5,5 @@ use Rattle.pg_draw.proofs.drawing.push_each_vertex.Given as goal
 
 abbrev pub invariant-loop-vertex : goal.invariant-loop-vertex
 invariant-loop-vertex l = l.shapes.items
-    ≡ l.fn.shapes.items ++ flat_map (vertex_shapes l.plan l.terminals) (range_with_len 0 l.vertex)
+    ≡ l.fn.shapes.items
+    ++ flat_map (vertex_shapes l.numbers l.plan l.terminals) (range_with_len 0 l.vertex)

@@ -6,6 +6,7 @@ use Rattle.pg_picture.proofs.printing.put_head.Goals as goal
 pub returns : goal.returns
 unfolding attribute_text head
 returns c = rw (
+  c.in_ok-put_size.ensures,
   c.in_ok-write.ensures.bytes,
   c.in_ok-push_str-2.ensures.bytes,
   c.in_ok-push_str.ensures.bytes,

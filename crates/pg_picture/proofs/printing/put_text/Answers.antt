@@ -9,6 +9,7 @@ returns c = rw (
   c.in_ok-push_str-3.ensures.bytes,
   c.in_ok-put_words.ensures,
   c.in_ok-push_str-2.ensures.bytes,
+  c.in_ok-put_lowered.ensures,
   c.in_ok-put_place.ensures,
   c.in_ok-put_paint.ensures,
   c.in_ok-push_str.ensures.bytes,

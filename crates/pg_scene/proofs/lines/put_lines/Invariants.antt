@@ -1,6 +1,8 @@
-use Rattle.std.proofs.Common.{◌≡◌, ◌++◌, map, take}
-use Rattle.pg_scene.specs.declared.item.Item.TheVariants.{Line}
+use Rattle.std.proofs.Common.{◌≡◌, ◌++◌, map}
+use Rattle.pg_scene.proofs.Common.{range_with_len}
+use Rattle.pg_scene.specs.Items.{line_item}
 use Rattle.pg_scene.proofs.lines.put_lines.Given as goal
 
-abbrev pub invariant-loop-line : goal.invariant-loop-line
-invariant-loop-line l = l.items.items ≡ l.fn.items.items ++ map Line (take l.line-index l.lines)
+abbrev pub invariant-loop-i : goal.invariant-loop-i
+invariant-loop-i l =
+    l.items.items ≡ l.fn.items.items ++ map (line_item l.lines) (range_with_len 0 l.i)

@@ -1,0 +1,4 @@
+mod Common
+pub mod Opened
+pub mod Found
+pub mod Endings

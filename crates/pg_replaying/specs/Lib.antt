@@ -1,0 +1,4 @@
+pub mod Prelude
+pub mod Records
+pub mod Due
+pub mod Runs

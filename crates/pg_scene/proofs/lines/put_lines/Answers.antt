@@ -1,0 +1,8 @@
+use Rattle.std.proofs.Common.{refl}
+use Rattle.pg_gen.proofs.Ascending.{next_of}
+use Rattle.pg_scene.specs.Items.{line_item}
+use Rattle.pg_scene.proofs.lines.put_lines.Goals as goal
+
+pub loop-i-preserved : goal.loop-i-preserved
+loop-i-preserved c = next_of (line_item c.args.lines.now) c.loop-i.i c.args.items.now.items _ _ _
+    c.in_ok-put_line_of.ensures c.loop-i.invariant refl

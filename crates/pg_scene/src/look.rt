@@ -1,0 +1,44 @@
+//! What is shown of a game or of a node.
+ghost use Rattle.std.specs.Prelude.{◌≡◌};
+ghost use Rattle.pg_scene.specs.Look.{whole_look};
+
+/// How much a legend says.
+#[derive(Clone, Copy, Debug, PartialEq, Eq)]
+pub enum Legend {
+    /// Nothing.
+    Absent,
+    /// What the body of a node says.
+    OfBody,
+    /// Everything.
+    Whole,
+}
+
+/// What is shown of a game or of a node, as options say it.
+#[derive(Clone, Copy, Debug, PartialEq, Eq)]
+pub struct Look {
+    /// Whether points, edges and vertices have their numbers.
+    pub numbers: bool,
+    /// Whether lines are drawn, if there are few enough.
+    pub lines: bool,
+    /// How much the legend says.
+    pub legend: Legend,
+    /// The width in pixels at which the picture is shown; none if the viewer chooses.
+    pub size: Option<u32>,
+    /// How many boards without marks are drawn in place of a game; none for the game itself.
+    pub blank: Option<u32>,
+}
+
+impl Look {
+    /// Returns what is shown without options: everything, of the game itself.
+    pub fn whole() -> Look
+        ensures { result ≡ whole_look }
+    {
+        Look {
+            numbers: true,
+            lines: true,
+            legend: Legend::Whole,
+            size: None,
+            blank: None,
+        }
+    }
+}
