@@ -3,8 +3,9 @@
 // one byte; the log, whose entries are parts of a part; and two parts for each file that the words
 // name: its name and its bytes.
 
-/** @typedef {{words: string[], input?: string, files?: Record<string, Uint8Array>}} Request
- * what a program is run on: words, the first of which names it; what its console reads; files */
+/** @typedef {Record<string, Uint8Array>} Files */
+/** @typedef {{words: string[], input?: string | Uint8Array, files?: Files}} Request what a program
+ * is run on: words, the first of which names it; what its console reads; files by their names */
 /** @typedef {{sign: string, bytes: Uint8Array}} Entry an entry of a log: `<` and what was printed,
  * `>` and a line that was read, `!` and the beginning of a line that is too long, `.` at the end */
 /** @typedef {{status: number, log: Entry[], files: Map<string, Uint8Array>}} Answer */
@@ -50,7 +51,7 @@ export function cut(bytes) {
 
 /** @type {(request: Request) => Uint8Array[]} Returns the parts of a request, its words first. */
 export const partsOf = ({ words, input = '', files = {} }) => [
-  ...words.map(bytesOf), bytesOf(input),
+  ...words.map(bytesOf), typeof input === 'string' ? bytesOf(input) : input,
   ...Object.entries(files).flatMap(([name, bytes]) => [bytesOf(name), bytes])];
 
 /** @type {(bytes: Uint8Array) => Answer} Reads an answer. */

@@ -37,11 +37,11 @@ const say = (id, ...said) => $(id).replaceChildren(...said.map(it => make('p', {
 
 /** Runs a program on the game, `G`, a certificate, `C`, or a record, `F`, and shows that it runs.
  * If it fails, or was stopped, it says so at a place of the page and returns nothing.
- * @param {string} words @param {string} place @param {Record<string, Uint8Array>} files
+ * @param {string} words @param {string} place @param {import('./form.js').Files} files
  * @param {string} input @param {number[]} accepted the statuses that are no failure */
 async function run(words, place, files = {}, input = '', accepted = [0]) {
   const since = Date.now();
-  /** @type {Record<string, Uint8Array>} */
+  /** @type {import('./form.js').Files} */
   const all = { G: bytesOf(gameText(game)), ...files };
   const timer = setInterval(() => {
     $('busy').textContent = `Running for ${Math.round((Date.now() - since) / 1000)} s`;
