@@ -4,9 +4,9 @@
     web/tests/browser_page.py [PROGRAM] [--page PAGE] [--draw PROGRAM] [--only NAME]
                               [--photographs FOLDER]
 
-PROGRAM is posgame, and PAGE the built page, by default web/dist/posgame.html. Each function of the page is used by the mouse,
-by keys, by files that are opened and dropped, and by files that are saved; these must be those of
-the native programs, to the byte. With --photographs pictures of the page are stored in a folder.
+PROGRAM is posgame, and PAGE the built page, by default web/dist/posgame.html. Each function of the
+page is used by the mouse, by keys, and by files that are opened and dropped. What is saved must be
+what the native programs write, to the byte. With --photographs pictures of the page are stored.
 
 Needs chromium (Debian: apt-get install chromium), so the gate doesn't run it. Unproved.
 """
@@ -329,8 +329,8 @@ def follow_link(page: Page) -> list[str]:
     call, shown = page.browser.call, (
         "[...document.querySelectorAll('section')].filter(it => getComputedStyle(it).display !=="
         " 'none')[0].id")
-    link = "(it => { it.scrollIntoView({block: 'center'}); const box = it.getBoundingClientRect();" \
-        " return [box.x + box.width / 2, box.y + box.height / 2]; })" \
+    link = "(it => { it.scrollIntoView({block: 'center'});" \
+        " const box = it.getBoundingClientRect(); return [box.x + box.width / 2, box.y + box.height / 2]; })" \
         "([...document.querySelectorAll('ul a, ol a, p:not(.leave, .from) a')].find(it =>" \
         " it.getBoundingClientRect().width))"
     page.browser.forget()
