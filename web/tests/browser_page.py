@@ -329,10 +329,11 @@ def follow_link(page: Page) -> list[str]:
     call, shown = page.browser.call, (
         "[...document.querySelectorAll('section')].filter(it => getComputedStyle(it).display !=="
         " 'none')[0].id")
+    links = "[...document.querySelectorAll('ul a, ol a, p:not(.leave, .from) a')]"
     link = "(it => { it.scrollIntoView({block: 'center'});" \
-        " const box = it.getBoundingClientRect(); return [box.x + box.width / 2, box.y + box.height / 2]; })" \
-        "([...document.querySelectorAll('ul a, ol a, p:not(.leave, .from) a')].find(it =>" \
-        " it.getBoundingClientRect().width))"
+        " const box = it.getBoundingClientRect();" \
+        " return [box.x + box.width / 2, box.y + box.height / 2]; })" \
+        f"({links}.find(it => it.getBoundingClientRect().width))"
     page.browser.forget()
     call("Target.setAutoAttach", autoAttach=True, waitForDebuggerOnStart=False, flatten=True)
     inner = [it["params"]["sessionId"] for it in page.browser.events
