@@ -163,8 +163,8 @@ async function accept(certificate, ...first) {
     const said = saidIn(answer), sides = sidesIn(said, game.turn);
     const count = textOf(certificate).split('\n').filter(it => it.includes('|')).length;
     proof = certificate;
-    say('result', ...first, ...claimsIn(game.kind, said),
-      `The proof was checked in this page. It has ${count} positions.`);
+    say('result', ...new Set([...first, ...claimsIn(game.kind, said)]),
+      `The proof was checked in this page. It has ${count} position${count === 1 ? '' : 's'}.`);
     $('side').replaceChildren(...sides.map(it =>
       make('option', { value: it }, nameOf(game.kind, it))));
     $('proof').hidden = $('save-certificate').disabled = false;

@@ -260,7 +260,7 @@ def checks(page: Page, _: str, __: str) -> None:
     page.drop(PAIRS[1])
     page.says("dropped", "result", r"If X \(Maker\) moves first, O \(Breaker\) wins")
     page.choose("open-proof", PAIRS[1])
-    page.says("chosen", "result", "The proof was checked in this page. It has 1 positions")
+    page.says("chosen", "result", "The proof was checked in this page. It has 1 position\\.")
     page.drop(kit.EXAMPLES / "a-pair-missing.cert")
     page.says("a pair missing", "result", r"proves nothing of this game.*node 0.*\(J6\)")
     page.use("posgame 1\nkind maker-breaker\ngrid 3 3\nline 0 9\nturn x\n")
@@ -430,6 +430,9 @@ def photograph(page: Page, folder: pathlib.Path) -> None:
         page.browser.emulate(width=width, scheme=scheme)
         page.browser.settle()
         height = page.js("document.documentElement.scrollHeight")
+        page.browser.size = width, height
+        page.browser.emulate(width=width, scheme=scheme)
+        page.browser.settle()
         page.browser.photograph(folder / f"{name}.png", {
             "x": 0, "y": 0, "width": width, "height": height})
 
