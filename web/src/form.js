@@ -12,8 +12,8 @@
 /** @typedef {{memory: WebAssembly.Memory, host_alloc: (size: bigint) => bigint,
  *   pg_web: (...numbers: bigint[]) => bigint}} Exports what a module exports */
 
-/** The status of a run for which memory is too small. */
-export const NO_MEMORY = 7;
+/** The statuses of a run for which memory is too small, and of a program that isn't there. */
+export const NO_MEMORY = 7, NO_PROGRAM = 70;
 // How many bytes an answer may have at first, and how many the shortest has.
 const ROOM = 1 << 25, SHORTEST = 17;
 
@@ -91,7 +91,7 @@ export function call(exports, request, room = ROOM) {
   const size = numbers && text && answer && exports.pg_web(BigInt(request.words.length), numbers,
     BigInt(parts.length), text, BigInt(bytes.length), answer, BigInt(room));
   if (size < SHORTEST) {
-    return { status: NO_MEMORY, log: [], files: new Map() };
+    return { status: size === 1n ? NO_PROGRAM : NO_MEMORY, log: [], files: new Map() };
   }
   const from = Number(answer), count = Number(size);
   return count > room ? call(exports, request, count)

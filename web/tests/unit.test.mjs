@@ -82,6 +82,7 @@ test('a long answer is asked for again, and no room is status 7', () => {
   assert.equal(seen.calls, 2);
   assert.equal(call(exports, { words: [] }, 1 << 21).status, 7);
   assert.equal(call(stand(new Uint8Array()).exports, { words: [] }, 100).status, 7);
+  assert.equal(call(stand(new Uint8Array(1)).exports, { words: [] }, 100).status, 70);
 });
 
 test('game files of the examples are read as they are printed', () => {
@@ -171,7 +172,7 @@ test('what is said of faults', () => {
   assert.equal(faultIn('accepted x x win\n', texts, files), '');
   assert.match(whyNot(answered(1, '<unknown after 390 positions\n'), texts, files), /390 positions/);
   assert.match(whyNot(answered(1, '<unknown at 3 after 9 positions\n'), texts, files), /3 moves/);
-  for (const status of [2, 5, 6, 7, 8, 9, 11]) {
+  for (const status of [2, 5, 6, 7, 8, 9, 11, 70]) {
     assert.equal(whyNot(answered(status), texts, files), texts.get(String(status)));
   }
   for (const code of read('launch/codes.txt').match(/^[GCF]\d+/mg)) {
