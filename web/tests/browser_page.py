@@ -282,15 +282,15 @@ def plays(page: Page, posgame: str, _: str) -> None:
         page.click("#table button", page.js(free))
         page.done()
         counts.append(page.js("document.querySelectorAll('#table .x, #table .y').length"))
-    page.expect("marks", counts, [3, 5, 7, 9])
+    page.expect("marks", counts, [3, 5, 7])
     page.says("over", "play-said", r"The play is over. O \(Breaker\) wins")
     page.press("undo")
     page.says("taken back", "play-said", r"X \(Maker\): choose a free point")
     record = page.save("save-record", "posgame.record").decode()
     page.expect("record", (record.startswith("posgame-record 1\nmove"), record.count("move")),
-                (True, 6))
+                (True, 4))
     page.press("review")
-    page.says("reviewed", "play-said", "6 moves were reviewed, 0 of them lost value")
+    page.says("reviewed", "play-said", "4 moves were reviewed, 0 of them lost value")
     page.use("posgame 1\nkind switching\nvertices 4\nterminals 0 1\nedge 0 2\nedge 0 3\nedge 2 3\n"
              "edge 2 1\nedge 3 1\nturn x\n")
     page.press("solve")
