@@ -8,6 +8,7 @@
 #include "heap.h"
 
 #include <stdio.h>
+#include <stdint.h>
 #include <stdlib.h>
 #include <string.h>
 
