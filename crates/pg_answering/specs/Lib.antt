@@ -1,0 +1,6 @@
+pub mod Machine
+pub mod Programs
+pub mod Solving
+pub mod Tasks
+pub mod Settling
+pub mod Answers
