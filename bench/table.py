@@ -444,8 +444,8 @@ class Terminal:
         self.command = ["tmux", "-S", str(room / "socket"), "-f", "/dev/null"]
         env = {"PATH": os.environ["PATH"], "LC_ALL": "C.UTF-8", "COLUMNS": str(COLUMNS), **more}
         start = ["new-session", "-d", "-x", str(COLUMNS), "-y", str(ROWS), "-s", "table"]
-        names = [word if word.startswith("-") or (kit.EXAMPLES / word).exists()
-                 else str(room / word) for word in words]
+        names = [str(room / word) if "." in word and not (kit.EXAMPLES / word).exists() else word
+                 for word in words]
         shell = ["sh", "-c", '"$0" "$@"; echo "status $?"; exec sleep 60', program]
         kit.call(*self.command, *start, *shell, *names, cwd=kit.EXAMPLES, env=env, check=True)
 
