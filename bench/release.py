@@ -309,8 +309,12 @@ COMPLETIONS = (
     ("posgame-play --record two-c", "two-children.record"),
     ("posgame-play --record = two-c", "two-children.record"),
     ("posgame-play --record x.record tippy-c", "tippy-corner.game"),
-    ("posgame-play wheel.game --", "--help --record --version"),
+    ("posgame-play wheel.game --", "--help --record --side --turn --version"),
     ("posgame-play wheel.game whe", ""),
+    ("posgame-play wheel.game --turn ", "x y"),
+    ("posgame-play tippy-corner.game tippy-by", "tippy-by-its-corner.cert"),
+    ("posgame-play --side y tippy-corner.game tippy-by", "tippy-by-its-corner.cert"),
+    ("posgame-play tippy-corner.game tippy-by-its-corner.cert whe", ""),
 )
 
 
