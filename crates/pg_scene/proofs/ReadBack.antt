@@ -17,6 +17,7 @@ use Rattle.pg_scene.specs.Items.{line_items, mark_of, member_items, numbered, pa
 use Rattle.pg_scene.specs.Items.{point_items, reply_item}
 use Rattle.pg_scene.specs.Items.{seen_at, seen_if, set_items, step_item, units, weight_items}
 use Rattle.pg_scene.specs.Read.{first_in, pair_in, point_in, reply_in, second_in}
+use Rattle.pg_scene.specs.Recorded.{IsSceneOfMoves, move_items}
 use Rattle.pg_scene.specs.Scenes.{IsSceneOf, IsSceneOfGame}
 use Rattle.pg_scene.specs.declared.item.Item.{Item}
 use Rattle.pg_scene.specs.declared.item.Item.TheVariants as items
@@ -190,6 +191,22 @@ points-node look g claim k node fault scene is =
     (ap₂ (λ a b. a ++ b) (none-lines point_in look.lines (lines_of g) (λ vs lane. refl))
     (ap₂ (λ a b. a ++ b) (no-points g p claim.side node.body) (none-fault point_in fault refl)))
     ∙ append-nil (marked (point_count g) p)
+
+pub points-moves : (look : Look) (g : Game) (p : Position) (over : Bool) (moves : List ℕ)
+    (scene : Scene)
+    → IsSceneOfMoves look g p over moves scene
+    → flat_map point_in scene.items ≡ marked (point_count g) p
+points-moves look g p over moves scene is =
+    let n = point_count g in
+    let lines = line_items look.lines (lines_of g) in
+    ap (flat_map point_in) is.items
+    ∙ flat_map-append point_in (point_items n p) (lines ++ move_items n moves)
+    ∙ ap₂ (λ a b. a ++ b) (points-read n p)
+    (flat_map-append point_in lines (move_items n moves)
+    ∙ ap₂ (λ a b. a ++ b) (none-lines point_in look.lines (lines_of g) (λ vs lane. refl))
+    (none-numbered point_in (step_item n)
+    (λ k v. none-seen point_in (nat_lt v n) (items.Step v k) refl) 1 moves))
+    ∙ append-nil (marked n p)
 
 -- ---- pairs
 

@@ -20,8 +20,11 @@ use Rattle.pg_scene.specs.Items.{are_drawn, body_items, fault_items, line_item, 
 use Rattle.pg_scene.specs.Items.{member_items, numbered, pair_item, point_items, reply_item}
 use Rattle.pg_scene.specs.Items.{seen_at, seen_if, set_items, step_item, units, weight_items}
 use Rattle.pg_scene.specs.Limits.{IsBoard, IsItemOn, IsScene, points_on, terminals_on}
+use Rattle.pg_scene.specs.Recorded.{IsSceneOfMoves, move_items, moves_by, order_if}
+use Rattle.pg_scene.specs.Recorded.{order_lines}
 use Rattle.pg_scene.specs.Scenes.{IsBoardOf, IsSceneOf, IsSceneOfGame, line_board}
-use Rattle.pg_scene.specs.Legends.{bias_line, body_lines, fault_lines, field_line, game_by}
+use Rattle.pg_scene.specs.Legends.{bias_line, board_lines, body_lines, fault_lines, field_line}
+use Rattle.pg_scene.specs.Legends.{game_by}
 use Rattle.pg_scene.specs.Legends.{game_legend, marks_line, node_by, node_legend, node_lines}
 use Rattle.pg_scene.specs.Legends.{position_lines, said_if, sets_lines, size_line}
 use Rattle.pg_scene.specs.declared.board.Board.{Board}
@@ -149,6 +152,13 @@ on-sets board g with_e first second le two =
     (member_items (point_count g) Second second) (on-members board (point_count g) First first le)
     (on-members board (point_count g) Second second le))
 
+on-steps : (board : Board) (n : ℕ) (points : List ℕ)
+    → n ≤ points_on board
+    → All (IsItemOn board) (move_items n points)
+on-steps board n points le = on-numbered (IsItemOn board) (step_item n)
+    (λ k v. on-seen (IsItemOn board) (nat_lt v n) (items.Step v k)
+    (λ h. let lt = below-of v n h in omega (arith, lt, le))) 1 points
+
 on-body : (board : Board) (g : Game) (p : Position) (side : Side) (body : Body)
     → point_count g ≤ points_on board
     → (is_graph g.field ≡ true → terminals_on board ≡ 2)
@@ -174,10 +184,7 @@ on-body board g p side (bodies.Trees with_e first second) le two =
     on-sets board g with_e first second le two
 on-body board g p side (bodies.Cuts with_e first second) le two =
     on-sets board g with_e first second le two
-on-body board g p side (bodies.Threat points) le two =
-    on-numbered (IsItemOn board) (step_item (point_count g))
-    (λ k v. on-seen (IsItemOn board) (nat_lt v (point_count g)) (items.Step v k)
-    (λ h. let lt = below-of v (point_count g) h in omega (arith, lt, le))) 1 points
+on-body board g p side (bodies.Threat points) le two = on-steps board (point_count g) points le
 on-body board g p side (bodies.Weaker child) le two = All-nil (IsItemOn board)
 
 pub on-fault : (board : Board) (fault : Option ℕ) → All (IsItemOn board) (fault_items fault)
@@ -247,13 +254,37 @@ said-few : (b : Bool) (line : List ℕ) → length (said_if b line) ≤ 1
 said-few true line = omega arith
 said-few false line = omega arith
 
-position-few : (look : Look) (g : Game) (p : Position) → length (position_lines look g p) ≤ 5
-position-few look g p =
+board-few : (look : Look) (g : Game) → length (board_lines look g) ≤ 4
+board-few look g =
     let bias = bias_line g.kind g.bias in
     let last = marks_line g.kind ∷ size_line look.numbers g.field
     ∷ field_line look.lines g.field ∷ [] in
     let few = said-few (nat_lt 1 g.bias) bias in
     omega (arith, few, length-append (said_if (nat_lt 1 g.bias) bias) last)
+
+position-few : (look : Look) (g : Game) (p : Position) → length (position_lines look g p) ≤ 5
+position-few look g p =
+    let few = board-few look g in
+    omega (arith, few)
+
+order_if-few : (b : Bool) → length (order_if b) ≤ 2
+order_if-few true = omega arith
+order_if-few false = omega arith
+
+order-few : (moves : List ℕ) → length (order_lines moves) ≤ 2
+order-few moves = order_if-few (nat_lt 0 (length moves))
+
+moves-few : (legend : Legend) (look : Look) (g : Game) (p : Position) (over : Bool)
+    (moves : List ℕ)
+    → length (moves_by legend look g p over moves) ≤ 7
+moves-few Absent look g p over moves = omega arith
+moves-few OfBody look g p over moves =
+    let few = order-few moves in
+    omega (arith, few)
+moves-few Whole look g p over moves =
+    let board = board-few look g in
+    let order = order-few moves in
+    omega (arith, board, order, length-append (board_lines look g) (order_lines moves))
 
 game-few : (legend : Legend) (look : Look) (g : Game) (p : Position)
     → length (game_by legend look g p) ≤ 5
@@ -345,4 +376,26 @@ IsScene-node look g claim number node fault scene is =
             same,
             node-few look.legend look g claim (position_of node) node.body fault,
           );
+    }
+
+pub IsScene-moves : (look : Look) (g : Game) (p : Position) (over : Bool) (moves : List ℕ)
+    (scene : Scene)
+    → IsSceneOfMoves look g p over moves scene
+    → IsScene scene
+IsScene-moves look g p over moves scene is =
+    let fit = fitting-game g scene.board is.board in
+    let on = IsItemOn scene.board in
+    let n = point_count g in
+    let le : n ≤ points_on scene.board = omega (arith, fit.points) in
+    record {
+      board = fit.is_board;
+      items = subst (All on) (sym is.items)
+          (All-append on (point_items n p)
+          (line_items look.lines (lines_of g) ++ move_items n moves) (on-points scene.board n p le)
+          (All-append on (line_items look.lines (lines_of g)) (move_items n moves)
+          (on-lines scene.board look.lines g le) (on-steps scene.board n moves le)));
+      few_lines =
+          let same : length scene.legend ≡ length (moves_by look.legend look g p over moves) =
+          ap length is.legend in
+          omega (arith, same, moves-few look.legend look g p over moves);
     }

@@ -133,11 +133,14 @@ fault_lines None = []
 
 -- ---- legends
 
+-- what is said of a game
+abbrev pub board_lines : Look → Game → List (List ℕ)
+board_lines look g = said_if (nat_lt 1 g.bias) (bias_line g.kind g.bias)
+    ++ marks_line g.kind ∷ size_line look.numbers g.field ∷ field_line look.lines g.field ∷ []
+
 -- what is said of a game and a position
 abbrev pub position_lines : Look → Game → Position → List (List ℕ)
-position_lines look g p = turn_line g.kind p
-    ∷ (said_if (nat_lt 1 g.bias) (bias_line g.kind g.bias)
-    ++ marks_line g.kind ∷ size_line look.numbers g.field ∷ field_line look.lines g.field ∷ [])
+position_lines look g p = turn_line g.kind p ∷ board_lines look g
 
 -- what a claim says
 abbrev pub claim_line : Kind → Side → Side → Goal → List ℕ

@@ -7,3 +7,4 @@ pub mod Look
 pub mod Scenes
 pub mod Read
 pub mod SpanScenes
+pub mod Recorded

@@ -2,11 +2,12 @@
 ghost use Rattle.std.specs.Prelude.{◌≡◌, ◌<◌, ◌≤◌, ℕ, Bool, List, Option, length, map, take};
 ghost use Rattle.pg_scene.specs.Prelude.{FinSet, All, flat_map, range_with_len, nat_cmp};
 ghost use Rattle.pg_scene.specs.Prelude.{points_below, Pair, position_of, Claim, Node, Reply};
-ghost use Rattle.pg_scene.specs.Prelude.{point_count, start, Game, SpanClaim, SpanGame};
+ghost use Rattle.pg_scene.specs.Prelude.{point_count, start, Game, Position, SpanClaim, SpanGame};
 ghost use Rattle.pg_cert.specs.declared.node.Body.TheVariants as bodies;
 ghost use Rattle.pg_scene.specs.Items.{mark_of, seen_at};
 ghost use Rattle.pg_scene.specs.Limits.{IsScene};
 ghost use Rattle.pg_scene.specs.Read.{first_in, pair_in, point_in, reply_in, second_in};
+ghost use Rattle.pg_scene.specs.Recorded.{IsSceneOfMoves};
 ghost use Rattle.pg_scene.specs.Scenes.{IsSceneOf, IsSceneOfGame};
 ghost use Rattle.pg_scene.specs.declared.look.Look.{Look};
 ghost use Rattle.pg_scene.specs.declared.scene.Scene.{Scene};
@@ -19,6 +20,9 @@ pub fn scenes_can_be_laid_out()
     ensures nodes { (look : Look) → (g : Game) → (claim : Claim) → (k : ℕ)
         → (node : Node) → (fault : Option ℕ) → (scene : Scene)
         → IsSceneOf look g claim k node fault scene
+        → IsScene scene }
+    ensures moves { (look : Look) → (g : Game) → (p : Position) → (over : Bool)
+        → (moves : List ℕ) → (scene : Scene) → IsSceneOfMoves look g p over moves scene
         → IsScene scene }
 {}
 
@@ -34,6 +38,10 @@ pub fn points_are_drawn_once()
         → IsSceneOf look g claim k node fault scene
         → flat_map point_in scene.items
         ≡ map (λ v. (v, mark_of (position_of node) v)) (range_with_len 0 (point_count g)) }
+    ensures moves { (look : Look) → (g : Game) → (p : Position) → (over : Bool)
+        → (moves : List ℕ) → (scene : Scene) → IsSceneOfMoves look g p over moves scene
+        → flat_map point_in scene.items
+        ≡ map (λ v. (v, mark_of p v)) (range_with_len 0 (point_count g)) }
 {}
 
 /// The pairs drawn are the first of the node's, as many as the game has points, each exactly once

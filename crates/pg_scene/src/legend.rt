@@ -1,6 +1,7 @@
 //! Legends of games and of nodes.
 ghost use Rattle.std.specs.Prelude.{◌≡◌, ◌++◌, ◌∷◌, [], IfOk, OnOk, string_bytes};
-ghost use Rattle.pg_scene.specs.Legends.{bias_line, claim_line, fault_lines, field_line};
+ghost use Rattle.pg_scene.specs.Legends.{bias_line, board_lines, claim_line, fault_lines};
+ghost use Rattle.pg_scene.specs.Legends.{field_line};
 ghost use Rattle.pg_scene.specs.Legends.{game_legend, graph_line, graph_words, lines_line};
 ghost use Rattle.pg_scene.specs.Legends.{marks_line, node_legend, node_lines, position_lines};
 ghost use Rattle.pg_scene.specs.Legends.{said_by, size_line, turn_line};
@@ -139,6 +140,23 @@ fn put_field_line(
     Ok(())
 }
 
+/// Adds what is said of a game.
+pub(crate) fn put_board(
+    alloc: Global,
+    lines: &mut Vec<Text>,
+    look: Look,
+    g: &Game,
+) -> Result<(), Memory>
+    ensures { OnOk result (lines.new.items ≡ lines.old.items ++ board_lines look g.now) }
+{
+    if g.bias > 1 {
+        lines.push(bias_line(alloc, g.kind, g.bias)?)?;
+    }
+    put_line(alloc, lines, marks_line(g.kind))?;
+    lines.push(size_line(alloc, look.numbers, &g.field)?)?;
+    put_field_line(alloc, lines, look.lines, &g.field)
+}
+
 /// Adds what is said of a game and a position.
 fn put_position(
     alloc: Global,
@@ -151,12 +169,7 @@ fn put_position(
         (lines.new.items ≡ lines.old.items ++ position_lines look g.now p.now) }
 {
     lines.push(turn_line(alloc, g.kind, p)?)?;
-    if g.bias > 1 {
-        lines.push(bias_line(alloc, g.kind, g.bias)?)?;
-    }
-    put_line(alloc, lines, marks_line(g.kind))?;
-    lines.push(size_line(alloc, look.numbers, &g.field)?)?;
-    put_field_line(alloc, lines, look.lines, &g.field)
+    put_board(alloc, lines, look, g)
 }
 
 /// What is said of a game and a position, if the legend says everything.

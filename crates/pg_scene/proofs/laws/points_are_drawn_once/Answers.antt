@@ -1,4 +1,4 @@
-use Rattle.pg_scene.proofs.ReadBack.{points-game, points-node}
+use Rattle.pg_scene.proofs.ReadBack.{points-game, points-moves, points-node}
 use Rattle.pg_scene.proofs.laws.points_are_drawn_once.Goals as goal
 
 pub returns-clause-games : goal.returns-clause-games
@@ -6,3 +6,6 @@ returns-clause-games c = points-game
 
 pub returns-clause-nodes : goal.returns-clause-nodes
 returns-clause-nodes c = points-node
+
+pub returns-clause-moves : goal.returns-clause-moves
+returns-clause-moves c = points-moves
