@@ -137,7 +137,7 @@ given : {A B : Type 0} (f : A → B) (xs : List A) (x : A)
     → Contains (map f xs) (f x)
 given f [] x at = absurd (omega (arith, at.1))
 given {A} {B} f (z ∷ zs) x (zero, lt, is) =
-    subst (λ (y : A). Contains (map f (z ∷ zs)) (f y)) (sym is) (Contains-head (f z) (map f zs))
+    subst (λ (y : A). Contains (map f (z ∷ zs)) (f y)) is (Contains-head (f z) (map f zs))
 given f (z ∷ zs) x (suc k, lt, is) =
     Contains-tail (f z) (f x) (map f zs) (given f zs x (k, omega arith, is))
 
