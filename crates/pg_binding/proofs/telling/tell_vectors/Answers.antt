@@ -20,6 +20,11 @@ pub returns-in-Err-Reject-clause-found : goal.returns-in-Err-Reject-clause-found
 returns-in-Err-Reject-clause-found c =
     let fault = c.in-Err-Reject.ensures.reject c.in-Err-Reject.claim c.in-Err-Reject.node
     c.in-Err-Reject.why (ap (λ (f : VecFault). Err f) c.in-Err-Reject.field-0-is) in
-    rw (c.in-Err-Reject.claim-is, c.in-Err-Reject.node-is, c.number.ensures)
+    rw (
+      c.in-Err-Reject.claim-is,
+      c.in-Err-Reject.node-is,
+      c.number.ensures,
+      c.in-Err-Reject.why-is,
+    )
     (vectors_rejected c.args.game.now c.args.cert.now c.in-Err-Reject.claim c.in-Err-Reject.node
     c.in-Err-Reject.why fault)
