@@ -187,8 +187,9 @@ def draws() -> str:
         Case(["--book", BOARD, FAULTY], 4, "rejected J6 claim 0 node 0\n",
              "a-pair-missing.cert', claim 0, node 0: .* .J6."),
         Case(["--book", FAULTY, FAULTY], 3, "game G3 line 1\n", "line 1: .* .G3."),
-        Case(["--book", "examples/triangle-connectivity.game", "none"], 2,
-             "words: no book of this kind of game\n", "no books of games of this kind"),
+        Case(["--book", "examples/triangle-connectivity.game", "none"], 5, "", "none: "),
+        Case(["--book", "examples/triangle-connectivity.game",
+              "examples/triangle-an-edge-too-many.cert"], 4, "rejected S3 claim 0\n", ".S3."),
         Case(["--book", BOARD, "none"], 5, "", "none: "),
     ):
         try_case(script, case)
@@ -200,7 +201,7 @@ def draws() -> str:
     expect(bool(re.fullmatch(r"posgame-draw [0-9.]*\n", told)), f"--version: {told!r}")
     expect(run(DRAWS, ["--version"]).stdout == told, "the program names another version")
     expect(run(DRAWS, ["--help"]).returncode == 0, "the program has no --help")
-    return "15 runs"
+    return "16 runs"
 
 
 def settles(script: pathlib.Path, room: pathlib.Path) -> int:
