@@ -6,9 +6,9 @@ tries those of crates/NAME/must-fail. Unproved.
     bench/edits.py [NAME..]
 
 Works on a copy of the files that git doesn't ignore, with these edits where `rt must-fail` looks
-for them, and with the libraries that are proved. Others below those named are proved first. Prints
-what rt says of each edit that isn't as it must be, and its last lines; the status is 1 if there is
-one.
+for them, and with the libraries that `rt check` built. Others below those named are proved first.
+Prints what rt says of each edit that isn't as it must be, and its last lines; the status is 1 if
+there is one.
 """
 from __future__ import annotations
 

@@ -187,8 +187,9 @@ def draws() -> str:
         Case(["--book", BOARD, FAULTY], 4, "rejected J6 claim 0 node 0\n",
              "a-pair-missing.cert', claim 0, node 0: .* .J6."),
         Case(["--book", FAULTY, FAULTY], 3, "game G3 line 1\n", "line 1: .* .G3."),
-        Case(["--book", "examples/triangle-connectivity.game", "none"], 2,
-             "words: no book of this kind of game\n", "no books of games of this kind"),
+        Case(["--book", "examples/triangle-connectivity.game", "none"], 5, "", "none: "),
+        Case(["--book", "examples/triangle-connectivity.game",
+              "examples/triangle-an-edge-too-many.cert"], 4, "rejected S3 claim 0\n", ".S3."),
         Case(["--book", BOARD, "none"], 5, "", "none: "),
     ):
         try_case(script, case)
@@ -200,7 +201,7 @@ def draws() -> str:
     expect(bool(re.fullmatch(r"posgame-draw [0-9.]*\n", told)), f"--version: {told!r}")
     expect(run(DRAWS, ["--version"]).stdout == told, "the program names another version")
     expect(run(DRAWS, ["--help"]).returncode == 0, "the program has no --help")
-    return "15 runs"
+    return "16 runs"
 
 
 def settles(script: pathlib.Path, room: pathlib.Path) -> int:
@@ -771,22 +772,37 @@ def proving(there: pathlib.Path, names: Words) -> float:
     return minutes
 
 
+def proved_programs(there: pathlib.Path, names: Words) -> str:
+    """Whether each program of a clone is there, and is that of this folder where this has one."""
+    told = load()
+    for name in names:
+        program = PROGRAMS[name]
+        made = there / program.relative_to(TOP)
+        expect(os.access(made, os.X_OK), f"no {made.name}")
+        if program.is_file():
+            same = made.read_bytes() == program.read_bytes()
+            told += f"; {made.name} is {'that' if same else 'not that'} of this folder"
+    expect("not that" not in told, told)
+    return told
+
+
 def prove_from_nothing() -> str:
-    """Proves and builds the programs in a clean clone: those that have a limit, then the others."""
+    """Proves and builds the programs that have a limit in a clean clone."""
     with folder() as room:
         there = clean_clone(room)
-        minutes, others = proving(there, PROVE_PROGRAMS), proving(there, [])
-        told = f"the others {others:.1f} min more, {load()}"
-        for program in PROGRAMS.values():
-            made = there / program.relative_to(TOP)
-            expect(os.access(made, os.X_OK), f"no {made.name}")
-            if program.is_file():
-                same = made.read_bytes() == program.read_bytes()
-                told += f"; {made.name} is {'that' if same else 'not that'} of this folder"
+        minutes = proving(there, PROVE_PROGRAMS)
+        told = proved_programs(there, PROVE_PROGRAMS)
         said = run(there / "posgame", ["check", BOARD, PAIRS], cwd=there)
     expect((said.stdout, said.stderr) == ("accepted x y win\n", ""), f"{said}")
-    expect("not that" not in told, told)
     return f"{limited(minutes, PROVE_MINUTES, 'min')}, {told}"
+
+
+def prove_every_program() -> str:
+    """Proves and builds all programs in a clean clone, which has no limit."""
+    with folder() as room:
+        there = clean_clone(room)
+        minutes = proving(there, [])
+        return f"{minutes:.1f} min, {proved_programs(there, [*PROGRAMS])}"
 
 
 def board_has_cells() -> str:
@@ -829,6 +845,7 @@ ROWS = [
     Row(1, "before a proof as after it", same_answers, "minutes"),
     Row(2, "prove, over a stand-in for the kit", of_problems(prove_stand_in.row)),
     Row(2, "prove from nothing", prove_from_nothing, "named"),
+    Row(2, "every program proved in a clone", prove_every_program, "named"),
     Row(3, "statuses, and what is said of them", answers),
     Row(3, "pictures, and what is said of them", draws),
     Row(3, "boards settled, and what is said of them", settled),

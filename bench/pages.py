@@ -16,6 +16,8 @@ book is made and opened, and then
   one is also made and taken back by keys;
 - the page with most links is tabbed through: Tab must reach each link of its list, and Enter must
   follow one;
+- of a connectivity game or a game on vectors the table of each page is the one that
+  bench/tables.py reads from the files, and the front leads to each page;
 - it is printed: every section must be on paper, and one alone if it was chosen before;
 - `xmllint` must find no error in it but names of elements that are younger than its list;
 - the milliseconds until it was drawn, and until a link's page was, are measured (limits 600 and
@@ -36,6 +38,7 @@ import time
 from typing import Any, Iterator, NamedTuple
 
 import kit
+import tables
 from browser import Browser
 
 LOAD, JUMP = 600, 100
@@ -44,6 +47,8 @@ PATIENCE = 10.0
 # The tags of HTML 5 and SVG that xmllint's list lacks.
 YOUNG = re.compile(r"Tag (section|header|main|summary|details|svg|rect|circle|line|text|g|title|"
                    r"foreignobject|foreignObject) invalid")
+TABLE = "[...%s.querySelectorAll('tr')].map(row => [...row.children].map(it => it.textContent))"
+FRONT = "header a"
 
 # What is seen of the page, in JavaScript. `SHOWN` is the one section that is displayed.
 SECTIONS = "[...document.querySelectorAll('section')]"
@@ -259,6 +264,19 @@ class Player:
         self.browser.press(" ")
         self.expect(f"{page}: taken back by a key", self.browser.evaluate(CHOSEN).count(True), 0)
 
+    def read_tables(self, due: list[list[list[str]]]) -> int:
+        """Follows each link of the front, compares the table of its page, and returns how many
+        pages there are."""
+        for number, table in enumerate(due):
+            page = f"p{number + 1}-1" if number else "p1"
+            self.go("")
+            x, y = self.browser.evaluate(MIDDLE % ("document", FRONT, number))
+            self.browser.click(x, y)
+            self.clicks += 1
+            self.expect(f"after the front's link to {page}", self.shown(), [page])
+            self.expect(f"{page}: table", self.browser.evaluate(TABLE % SHOWN), table)
+        return len(due)
+
     def print_all(self) -> int:
         """Prints the book, and returns how many sheets it takes."""
         self.browser.emulate("print")
@@ -331,6 +349,10 @@ def play(player: Player, book: Book) -> tuple[int, int]:
     """Plays a book to its end, and returns how many pages were visited and printed."""
     if not book.is_played:
         return 0, 0
+    game = (kit.EXAMPLES / book.game).read_text()
+    if tables.is_family(game):
+        due = tables.tables_of(game, (kit.EXAMPLES / book.cert).read_text())
+        return player.read_tables(due), player.print_all()
     roots = [name for name in player.pages if name == "p1" or re.fullmatch(r"p\d+-1", name)]
     visited = sum(player.walk("ring", root) for root in roots)
     player.expect("pages by the list", sum(player.walk("list", root) for root in roots), visited)

@@ -30,6 +30,7 @@ RTLIB = '''
 import fcntl, os, shutil, sys, time
 
 KIT = os.path.dirname(os.path.dirname(os.path.abspath(__file__)))
+RATTLE = "rattle"
 
 
 def files_of(folder):
@@ -47,6 +48,8 @@ def lock(crates):
 
 
 def text_of(file):
+    if not os.path.isfile(file):
+        return None
     with open(file) as it:
         return it.read()
 
@@ -54,6 +57,7 @@ def text_of(file):
 class Crate:
     def __init__(self, root, name, deps):
         self.name, self.folder, self.deps, self.out = name, f"{root}/crates/{name}", deps, None
+        self.rlib = f"{self.folder}/out/rlib/{name}.rlib"
 
     def below(self):
         found = {low.name: low for it in self.deps for low in [*it.below(), it]}
@@ -66,9 +70,8 @@ class Crate:
         return "".join(map(text_of, files_of(self.folder))) + "".join(
             it.stamp() for it in self.below())
 
-    def is_built(self):
-        made = f"{self.folder}/out/rlib"
-        return os.path.isfile(made) and text_of(made) == self.stamp()
+    def words(self, flags, keeps):
+        return [*flags, *(it.rlib for it in self.below())]
 
     def note(self, what):
         with open(f"{KIT}/calls", "a") as it:
@@ -84,10 +87,12 @@ class Crate:
             raise OSError("no space left")
         return int("wrong" in text)
 
-    def build_rlib(self, flags, anew):
-        status = self.prove()
+    def build(self, words):
+        lacking = sum(it.endswith(".rlib") and not os.path.isdir(it) for it in words)
+        status = self.prove() or int("--statements" not in words or lacking != 1)
         if status == 0:
-            with open(f"{self.folder}/out/rlib", "w") as it:
+            os.makedirs(self.rlib)
+            with open(f"{self.rlib}/format", "w") as it:
                 it.write(self.stamp())
         return status
 
@@ -98,6 +103,8 @@ class Crate:
         return status
 
     def call(self, *words):
+        if words[:2] == (RATTLE, "build"):
+            return self.build(words)
         made = words[words.index("-o") + 1]
         shutil.copy(f"{self.folder}/{made}.o", f"{self.folder}/{made}")
         os.chmod(f"{self.folder}/{made}", 0o755)

@@ -11,6 +11,7 @@ import unittest
 import browser
 import kit
 import pages
+import tables
 from browser import Frame
 
 CERT = """posgame-cert 2
@@ -77,6 +78,31 @@ class Expected(unittest.TestCase):
             self.assertTrue((kit.EXAMPLES / it.game).is_file(), it.game)
             self.assertTrue((kit.EXAMPLES / it.cert).is_file(), it.cert)
         self.assertEqual([it.name for it in pages.books(found[0].name)], [found[0].name])
+
+
+class Tables(unittest.TestCase):
+    def test_edges(self) -> None:
+        game = "posgame-span 1\nvertices 3\nedge 0 1\nedge 1 2\nedge 0 2\nx 0\nturn y\n"
+        cert = "posgame-span-cert 1\nclaim y x\ntrees 1 / 2\nclaim y y\nparts 0 0 1\n"
+        trees, parts = tables.tables_of(game, cert)
+        self.assertEqual([row[3] for row in trees[1:]], ["", "first", "second"])
+        self.assertEqual([row[2] for row in trees[1:]], ["Maker", "free", "free"])
+        self.assertEqual([row[3] for row in parts[1:]],
+                         ["inside a part", "between parts", "between parts"])
+        self.assertEqual(trees[1][:2], ["0", "0 and 1"])
+
+    def test_vectors(self) -> None:
+        game = "posgame-vectors 1\nrows 2\ntarget 11\nvector 10\nvector 01\ny 1\nturn x\n"
+        table, = tables.tables_of(game, "posgame-cert 1\nclaim x y win\nnodes 1\n|1|x|cuts e / 0\n")
+        self.assertEqual(table[1:], [["0", "10", "free", "second"], ["1", "01", "Cut", ""]])
+
+    def test_first(self) -> None:
+        self.assertEqual(tables.role("trees first 3 1 / 2".split(), 3, []), "claimed first")
+
+    def test_kinds(self) -> None:
+        self.assertTrue(tables.is_family("# one\nposgame-span 1\n"))
+        self.assertFalse(tables.is_family("posgame 1\n"))
+        self.assertFalse(tables.is_family(""))
 
 
 class Markup(unittest.TestCase):

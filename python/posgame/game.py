@@ -298,7 +298,7 @@ class Game:
         """Returns a valid certificate as a book, by `posgame-draw --book`: one page of HTML, whose
         sections are the positions of the proof, with pictures and links.
 
-        A certificate that is not valid raises Rejected, and a game that has no book RunFailed.
+        A certificate that is not valid raises Rejected.
         """
         files = {"GAME": bytes_of(self.text), "CERT": bytes_of(certificate)}
         return answer_of(run("posgame-draw", ["--book", "GAME", "CERT"], files), [0]).text

@@ -1,12 +1,12 @@
--- What a failed read comes from: a missing certificate is missed only where there are books of the
--- game's kind.
+-- What a failed read comes from.
 use Rattle.std.proofs.Common.{◌≡◌, Option, Some, None, Result, Ok, Err, IfErr, refl}
 use Rattle.std.proofs.Common.{inl, inr}
 use Rattle.pg_binding.proofs.Common.{Bytes, Game, Halt, HaltCauses, Holding, IsAbsent, IsInnerHalt}
-use Rattle.pg_binding.proofs.Common.{IsLackingOne, Memory, Positional, Read, Refused, Stopped}
-use Rattle.pg_binding.proofs.Common.{Telling, Write, entry}
+use Rattle.pg_binding.proofs.Common.{IsLackingOne, Memory, Read, Refused, SpanGame, Stopped}
+use Rattle.pg_binding.proofs.Common.{Telling, VecGame, Write, entry, span_entry, vector_entry}
 use Rattle.pg_io.specs.Causes.{Faults}
 use Rattle.pg_binding.specs.Books.{with_evidence}
+use Rattle.pg_binding.specs.Games.AnyEntry.{Connectivity, Positional, Vectors}
 
 -- what is missing of one thing is missing of another
 pub halt_caused : (S T absent lacks : Type 0)
@@ -30,9 +30,34 @@ inner_caused lacks before now (Err (Stopped Read)) inner calm = absurd inner
 inner_caused lacks before now (Err (Stopped Write)) inner calm = absurd inner
 inner_caused lacks before now (Err (Stopped Memory)) inner calm = calm
 
--- a game with books needs its certificate
-pub lacks_certificate : (g : Game) (h : Option Holding) (certificate : Bytes)
-    → IsAbsent h certificate
-    → IsLackingOne (with_evidence (Ok (Positional (entry g)))) h certificate
-lacks_certificate g None certificate absent = absurd absent
-lacks_certificate g (Some held) certificate absent = rw absent refl
+-- a game needs its certificate
+module _ (h : Option Holding) (certificate : Bytes) where
+  pub lacks_evidence : (g : Game)
+      → IsAbsent h certificate
+      → IsLackingOne (with_evidence (Ok (Positional (entry g)))) h certificate
+  lacks_evidence g absent = go h absent where
+    go : (h : Option Holding)
+        → IsAbsent h certificate
+        → IsLackingOne (with_evidence (Ok (Positional (entry g)))) h certificate
+    go None absent = absurd absent
+    go (Some held) absent = rw absent refl
+
+  pub lacks_span : (g : SpanGame)
+      → IsAbsent h certificate
+      → IsLackingOne (with_evidence (Ok (Connectivity (span_entry g)))) h certificate
+  lacks_span g absent = go h absent where
+    go : (h : Option Holding)
+        → IsAbsent h certificate
+        → IsLackingOne (with_evidence (Ok (Connectivity (span_entry g)))) h certificate
+    go None absent = absurd absent
+    go (Some held) absent = rw absent refl
+
+  pub lacks_vectors : (g : VecGame)
+      → IsAbsent h certificate
+      → IsLackingOne (with_evidence (Ok (Vectors (vector_entry g)))) h certificate
+  lacks_vectors g absent = go h absent where
+    go : (h : Option Holding)
+        → IsAbsent h certificate
+        → IsLackingOne (with_evidence (Ok (Vectors (vector_entry g)))) h certificate
+    go None absent = absurd absent
+    go (Some held) absent = rw absent refl

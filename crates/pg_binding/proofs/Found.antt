@@ -1,15 +1,20 @@
 -- What is due, from what was read.
-use Rattle.std.proofs.Common.{◌≡◌, ℕ, Option, Some, None, Result, Ok, Err, refl, sym, subst}
+use Rattle.std.proofs.Common.{◌≡◌, ℕ, Option, Some, None, Result, Ok, Err, refl, sym, subst, ap}
+use Rattle.std.proofs.Common.{◌∙◌}
 use Rattle.std.proofs.Common.{inl, inr, IfOk, IfErr}
 use Rattle.pg_binding.proofs.Common.{Bytes, Cert, DONE, Evidence, Finds, Game, Halt, HasFault}
-use Rattle.pg_binding.proofs.Common.{Holding, IsFound, IsInnerHalt, IsReadHalt, IsValid}
-use Rattle.pg_binding.proofs.Common.{MakesStanding, Memory, OpensEvidence, Positional, Read}
-use Rattle.pg_binding.proofs.Common.{Refused, StandsFor, Stopped, Telling, Write, entry}
-use Rattle.pg_binding.proofs.Common.{evidence_held}
-use Rattle.pg_messages.specs.declared.refusal.Refusal.TheVariants.{Rejected}
-use Rattle.pg_binding.specs.Books.{BookEntry, with_evidence}
-use Rattle.pg_binding.specs.Books.BookEntry.{OfGame}
-use Rattle.pg_binding.specs.Due.{IsBookDue, IsEvidenceDue, IsWholeBook}
+use Rattle.pg_binding.proofs.Common.{Holding, IsFirstFlaw, IsFirstVecFault, IsFound, IsInnerHalt}
+use Rattle.pg_binding.proofs.Common.{IsReadHalt, IsSpanValid, IsValid, IsVecValid}
+use Rattle.pg_binding.proofs.Common.{MakesStanding, Memory, Opens, Read, Refused, SpanCert}
+use Rattle.pg_binding.proofs.Common.{SpanFlaw, SpanGame, StandsFor, Stopped, Telling, VecFlaw}
+use Rattle.pg_binding.proofs.Common.{VecGame, Write, book_text, span_book_text}
+use Rattle.pg_binding.proofs.Common.{vector_book_text}
+use Rattle.pg_gf2.specs.Check.{flaw_number as vector_flaw_number}
+use Rattle.pg_messages.specs.declared.refusal.Refusal.TheVariants.{Rejected, RejectedSpan}
+use Rattle.pg_messages.specs.declared.refusal.Refusal.TheVariants.{RejectedVectors}
+use Rattle.pg_span.specs.Flaw.{flaw_number}
+use Rattle.pg_binding.specs.Books.{BookEntry}
+use Rattle.pg_binding.specs.Due.{AreVectorsDue, IsBookDue, IsEvidenceDue, IsSpanDue, IsWholeBook}
 
 -- ---- a certificate that was read
 
@@ -41,7 +46,7 @@ module _ (g : Game) (e : Evidence) where
   pub book_due : (cert : Cert)
       → StandsFor g e cert
       → IsValid g cert
-      → (r : Result Telling Halt) → IsWholeBook g cert r
+      → (r : Result Telling Halt) → IsWholeBook (book_text g cert) r
       → IsFound (IsEvidenceDue g e) r
   book_due cert stands valid (Ok told) whole = inl (record {
     cert = cert;
@@ -53,17 +58,56 @@ module _ (g : Game) (e : Evidence) where
   book_due cert stands valid (Err halt) whole =
       subst (λ (h : Halt). IsFound (IsEvidenceDue g e) (Err h)) (sym whole) tt
 
-pub whole_done : (g : Game) (c : Cert) (r : Result Telling Halt)
-    → IsWholeBook g c r
-    → IfOk r (λ told. told.status ≡ DONE)
-whole_done g c (Ok told) whole = whole.1
-whole_done g c (Err halt) whole = tt
+module _ (g : SpanGame) (c : SpanCert) where
+  pub span_rejected : (claim : ℕ) (why : SpanFlaw)
+      → IsFirstFlaw g c claim why
+      → IsFound (IsSpanDue g c) (Err (Refused (RejectedSpan claim (flaw_number why))))
+  span_rejected claim why first = inr (record {
+    refusal = RejectedSpan claim (flaw_number why);
+    rejects = (claim, why, first, refl);
+    text_is = refl;
+    status_is = refl;
+  })
 
-pub whole_halts : (g : Game) (c : Cert) (r : Result Telling Halt)
-    → IsWholeBook g c r
+  pub span_due : IsSpanValid g c
+      → (r : Result Telling Halt) → IsWholeBook (span_book_text g c) r
+      → IsFound (IsSpanDue g c) r
+  span_due valid (Ok told) whole =
+      inl (record { valid = valid; text_is = whole.0; status_is = whole.1 })
+  span_due valid (Err halt) whole =
+      subst (λ (h : Halt). IsFound (IsSpanDue g c) (Err h)) (sym whole) tt
+
+module _ (g : VecGame) (c : Cert) where
+  pub vectors_rejected : (claim node : ℕ) (why : VecFlaw)
+      → IsFirstVecFault g c claim node why
+      → IsFound (AreVectorsDue g c)
+      (Err (Refused (RejectedVectors claim node (vector_flaw_number why))))
+  vectors_rejected claim node why first = inr (record {
+    refusal = RejectedVectors claim node (vector_flaw_number why);
+    rejects = (claim, node, why, first, refl);
+    text_is = refl;
+    status_is = refl;
+  })
+
+  pub vectors_due : IsVecValid g c
+      → (r : Result Telling Halt) → IsWholeBook (vector_book_text g c) r
+      → IsFound (AreVectorsDue g c) r
+  vectors_due valid (Ok told) whole =
+      inl (record { valid = valid; text_is = whole.0; status_is = whole.1 })
+  vectors_due valid (Err halt) whole =
+      subst (λ (h : Halt). IsFound (AreVectorsDue g c) (Err h)) (sym whole) tt
+
+pub whole_done : (text : Bytes) (r : Result Telling Halt)
+    → IsWholeBook text r
+    → IfOk r (λ told. told.status ≡ DONE)
+whole_done text (Ok told) whole = whole.1
+whole_done text (Err halt) whole = tt
+
+pub whole_halts : (text : Bytes) (r : Result Telling Halt)
+    → IsWholeBook text r
     → IfErr r IsInnerHalt
-whole_halts g c (Ok told) whole = tt
-whole_halts g c (Err halt) whole = subst IsInnerHalt (sym whole) tt
+whole_halts text (Ok told) whole = tt
+whole_halts text (Err halt) whole = subst IsInnerHalt (sym whole) tt
 
 -- what can end work on what was read can end reading it
 pub inner_read : (r : Result Telling Halt) → IfErr r IsInnerHalt → IfErr r IsReadHalt
@@ -73,43 +117,33 @@ inner_read (Err (Stopped Read)) inner = absurd inner
 inner_read (Err (Stopped Write)) inner = absurd inner
 inner_read (Err (Stopped Memory)) inner = tt
 
--- ---- a game with the certificate of a name
+-- ---- a game with the certificate of a name, by how certificates of its kind are read
 
-module _ (g : Game) where
-  -- it is read as this
-  reads_pair : (o : Option Bytes) (e : Evidence)
-      → evidence_held o ≡ Ok e
-      → with_evidence (Ok (Positional (entry g))) o ≡ Ok (OfGame (entry g) e)
-  reads_pair o e is = rw is refl
-
-  refuses_pair : (o : Option Bytes) (halt : Halt)
-      → evidence_held o ≡ Err halt
-      → with_evidence (Ok (Positional (entry g))) o ≡ Err halt
-  refuses_pair o halt is = rw is refl
-
-  due_of : (e : Evidence) (r : Result Telling Halt)
-      → IsFound (IsEvidenceDue g e) r
-      → IsFound (IsBookDue (Ok (OfGame (entry g) e))) r
-  due_of e (Ok told) due = (g, refl, due)
-  due_of e (Err (Refused refusal)) due = (g, refl, due)
-  due_of e (Err (Stopped stop)) due = tt
-
-  pub opened_due : (h : Option Holding) (certificate : Bytes) (e : Evidence)
-      → OpensEvidence h certificate (Ok e)
-      → (r : Result Telling Halt) → IsFound (IsEvidenceDue g e) r
-      → Finds h
-      (λ held. IsBookDue (with_evidence (Ok (Positional (entry g))) (held certificate))) r
-  opened_due None certificate e opens r due = tt
-  opened_due (Some held) certificate e opens r due =
-      subst (λ (read : Result BookEntry Halt). IsFound (IsBookDue read) r)
-      (sym (reads_pair (held certificate) e opens)) (due_of e r due)
+module _ {C : Type 0} (read : Option Bytes → Result C Halt)
+    (pair : Result C Halt → Result BookEntry Halt)
+    (refused : (halt : Halt) → pair (Err halt) ≡ Err halt) where
+  pub opened_due : (h : Option Holding) (certificate : Bytes) (c : C) (due : Bytes → ℕ → Type 0)
+      → ((text : Bytes) (status : ℕ) → due text status
+      → IsBookDue (pair (Ok c)) text status)
+      → Opens (λ (x : C). x) read h certificate (Ok c)
+      → (r : Result Telling Halt) → IsFound due r
+      → Finds h (λ held. IsBookDue (pair (read (held certificate)))) r
+  opened_due None certificate c due all opens r found = tt
+  opened_due (Some held) certificate c due all opens r found =
+      subst (λ (o : Result C Halt). IsFound (IsBookDue (pair o)) r) (sym opens)
+      (each r found) where
+        each : (r : Result Telling Halt)
+            → IsFound due r
+            → IsFound (IsBookDue (pair (Ok c))) r
+        each (Ok told) found = all _ told.status found
+        each (Err (Refused refusal)) found = all _ _ found
+        each (Err (Stopped stop)) found = tt
 
   pub unopened_due : (h : Option Holding) (certificate : Bytes) (halt : Halt)
-      → OpensEvidence h certificate (Err halt)
-      → Finds h
-      (λ held. IsBookDue (with_evidence (Ok (Positional (entry g))) (held certificate))) (Err halt)
+      → Opens (λ (x : C). x) read h certificate (Err halt)
+      → Finds h (λ held. IsBookDue (pair (read (held certificate)))) (Err halt)
   unopened_due None certificate halt opens = tt
   unopened_due (Some held) certificate (Refused refusal) opens =
-      subst (λ (read : Result BookEntry Halt). IsFound (IsBookDue read) (Err (Refused refusal)))
-      (sym (refuses_pair (held certificate) (Refused refusal) opens)) (refl, refl)
+      subst (λ (o : Result BookEntry Halt). IsFound (IsBookDue o) (Err (Refused refusal)))
+      (sym (ap pair opens ∙ refused (Refused refusal))) (refl, refl)
   unopened_due (Some held) certificate (Stopped stop) opens = tt

@@ -1,3 +1,5 @@
 mod Common
 pub mod Found
 pub mod Causes
+pub mod Openings
+pub mod Statuses

@@ -1,26 +1,40 @@
--- What the names of a game and of a certificate contain, if there are books of the game's kind.
+-- What the names of a game and of a certificate contain.
 use Rattle.std.specs.Prelude.{Option, Result, Ok, Err}
-use Rattle.pg_binding.specs.Prelude.{BoardEntry, Bytes, Connectivity, Evidence, Halt, Positional}
-use Rattle.pg_binding.specs.Prelude.{board_held, evidence_held}
+use Rattle.pg_binding.specs.Prelude.{Bytes, Cert, Evidence, Halt, SpanCert, certificate_held}
+use Rattle.pg_binding.specs.Prelude.{evidence_held, span_cert_held}
+use Rattle.pg_family_files.specs.FamilyFile.{SpanEntry, VectorEntry}
 use Rattle.pg_files.specs.GameFile.{Entry as GameEntry}
+use Rattle.pg_binding.specs.Games.{AnyEntry, any_held}
+use Rattle.pg_binding.specs.Games.AnyEntry.{Connectivity, Positional, Vectors}
 
--- a game with a certificate in either form; or that there are no books of the game's kind
+-- a game with a certificate of its kind; that of a game on lines or a switching game is in either
+-- form
 pub data BookEntry : Type 0 where
   OfGame : GameEntry → Evidence → BookEntry
-  NoBook : BookEntry
+  OfSpan : SpanEntry → SpanCert → BookEntry
+  OfVectors : VectorEntry → Cert → BookEntry
 
 -- a game with its certificate, or why that is refused
 abbrev pub game_pair : GameEntry → Result Evidence Halt → Result BookEntry Halt
 game_pair e (Ok evidence) = Ok (OfGame e evidence)
 game_pair e (Err halt) = Err halt
 
--- a game with its certificate, which is read only if there are books of the game's kind, or why the
--- first of them is refused
-abbrev pub with_evidence : Result BoardEntry Halt → Option Bytes → Result BookEntry Halt
+abbrev pub span_pair : SpanEntry → Result SpanCert Halt → Result BookEntry Halt
+span_pair e (Ok cert) = Ok (OfSpan e cert)
+span_pair e (Err halt) = Err halt
+
+abbrev pub vector_pair : VectorEntry → Result Cert Halt → Result BookEntry Halt
+vector_pair e (Ok cert) = Ok (OfVectors e cert)
+vector_pair e (Err halt) = Err halt
+
+-- a game with its certificate, which is read as one of the game's kind, or why the first of them is
+-- refused
+abbrev pub with_evidence : Result AnyEntry Halt → Option Bytes → Result BookEntry Halt
 with_evidence (Err halt) bytes = Err halt
 with_evidence (Ok (Positional e)) bytes = game_pair e (evidence_held bytes)
-with_evidence (Ok (Connectivity e)) bytes = Ok NoBook
+with_evidence (Ok (Connectivity e)) bytes = span_pair e (span_cert_held bytes)
+with_evidence (Ok (Vectors e)) bytes = vector_pair e (certificate_held bytes)
 
 -- what two names contain, or why the first of them is refused
 abbrev pub book_held : Option Bytes → Option Bytes → Result BookEntry Halt
-book_held game_bytes certificate_bytes = with_evidence (board_held game_bytes) certificate_bytes
+book_held game_bytes certificate_bytes = with_evidence (any_held game_bytes) certificate_bytes

@@ -1,12 +1,15 @@
 -- WHAT IS PRINTED, with its status.
 use Rattle.std.specs.Prelude.{◌≡◌, ◌⊎◌, ℕ, Result, Ok, Err, string_bytes}
 use Rattle.pg_binding.specs.Prelude.{Bytes, Cert, DONE, Evidence, Game, Halt, IsHaltDue, IsSaidBy}
-use Rattle.pg_binding.specs.Prelude.{IsValid, NO_MEANING, Refusal, RejectsEvidence, StandsFor}
-use Rattle.pg_binding.specs.Prelude.{Telling, book_text, refusal_status, refusal_text}
-use Rattle.pg_binding.specs.Prelude.{Memory, Stopped}
+use Rattle.pg_binding.specs.Prelude.{IsSpanValid, IsValid, IsVecValid, Memory, Refusal}
+use Rattle.pg_binding.specs.Prelude.{RejectsEvidence, RejectsSpan, RejectsVectors, SpanCert}
+use Rattle.pg_binding.specs.Prelude.{SpanGame, StandsFor, Stopped, Telling, VecGame, book_text}
+use Rattle.pg_binding.specs.Prelude.{refusal_status, refusal_text, span_book_text, span_entry}
+use Rattle.pg_binding.specs.Prelude.{vector_book_text, vector_entry}
 use Rattle.pg_binding.specs.Books.{BookEntry}
-use Rattle.pg_binding.specs.Books.BookEntry.{NoBook, OfGame}
-use Rattle.pg_binding.specs.declared.telling.TheConstants.{NO_BOOK}
+use Rattle.pg_binding.specs.Books.BookEntry.{OfGame, OfSpan, OfVectors}
+
+-- ---- books
 
 -- the book of the certificate for which this one stands, which is valid
 pub record IsBook (g : Game) (e : Evidence) (text : Bytes) (status : ℕ) : Type 0 where
@@ -16,29 +19,52 @@ pub record IsBook (g : Game) (e : Evidence) (text : Bytes) (status : ℕ) : Type
   pub text_is : text ≡ book_text g cert
   pub status_is : status ≡ DONE
 
--- why it is rejected, with its first fault
-pub record IsRejection (g : Game) (e : Evidence) (text : Bytes) (status : ℕ) : Type 0 where
+-- the book of a valid certificate of a connectivity game
+pub record IsSpanBook (g : SpanGame) (c : SpanCert) (text : Bytes) (status : ℕ) : Type 0 where
+  pub valid : IsSpanValid g c
+  pub text_is : text ≡ span_book_text g c
+  pub status_is : status ≡ DONE
+
+-- the book of a valid certificate of a game on vectors
+pub record IsVectorBook (g : VecGame) (c : Cert) (text : Bytes) (status : ℕ) : Type 0 where
+  pub valid : IsVecValid g c
+  pub text_is : text ≡ vector_book_text g c
+  pub status_is : status ≡ DONE
+
+-- why a certificate is rejected, as `check` prints it
+pub record IsRejection (Rejects : Refusal → Type 0) (text : Bytes) (status : ℕ) : Type 0 where
   pub refusal : Refusal
-  pub rejects : RejectsEvidence g e refusal
+  pub rejects : Rejects refusal
   pub text_is : text ≡ refusal_text refusal
   pub status_is : status ≡ refusal_status refusal
 
--- the whole book of a certificate, unless memory ran out
-abbrev pub IsWholeBook : Game → Cert → Result Telling Halt → Type 0
-IsWholeBook g c (Ok told) = (string_bytes told.words ≡ book_text g c) × (told.status ≡ DONE)
-IsWholeBook g c (Err halt) = halt ≡ Stopped Memory
+-- ---- what was read
 
 -- a certificate's book, or why it is rejected
 abbrev pub IsEvidenceDue : Game → Evidence → Bytes → ℕ → Type 0
-IsEvidenceDue g e text status = IsBook g e text status ⊎ IsRejection g e text status
+IsEvidenceDue g e text status =
+    IsBook g e text status ⊎ IsRejection (RejectsEvidence g e) text status
 
--- that there is no book of games of the kind
-abbrev pub IsBookOfNone : Bytes → ℕ → Type 0
-IsBookOfNone text status = (text ≡ NO_BOOK.now) × (status ≡ NO_MEANING)
+abbrev pub IsSpanDue : SpanGame → SpanCert → Bytes → ℕ → Type 0
+IsSpanDue g c text status = IsSpanBook g c text status ⊎ IsRejection (RejectsSpan g c) text status
+
+abbrev pub AreVectorsDue : VecGame → Cert → Bytes → ℕ → Type 0
+AreVectorsDue g c text status =
+    IsVectorBook g c text status ⊎ IsRejection (RejectsVectors g c) text status
 
 -- what is printed of a game and a certificate that were read, or of what was refused
 abbrev pub IsBookDue : Result BookEntry Halt → Bytes → ℕ → Type 0
 IsBookDue (Err halt) text status = IsHaltDue halt text status
-IsBookDue (Ok NoBook) text status = IsBookOfNone text status
 IsBookDue (Ok (OfGame entry e)) text status =
     (g : Game) × IsSaidBy entry g × IsEvidenceDue g e text status
+IsBookDue (Ok (OfSpan entry c)) text status =
+    (g : SpanGame) × (span_entry g ≡ entry) × IsSpanDue g c text status
+IsBookDue (Ok (OfVectors entry c)) text status =
+    (g : VecGame) × (vector_entry g ≡ entry) × AreVectorsDue g c text status
+
+-- ---- what the code makes
+
+-- the whole of a text, unless memory ran out
+abbrev pub IsWholeBook : Bytes → Result Telling Halt → Type 0
+IsWholeBook text (Ok told) = (string_bytes told.words ≡ text) × (told.status ≡ DONE)
+IsWholeBook text (Err halt) = halt ≡ Stopped Memory

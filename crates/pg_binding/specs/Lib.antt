@@ -1,4 +1,5 @@
 pub mod Prelude
+pub mod Games
 pub mod Books
 pub mod Due
 pub mod Runs

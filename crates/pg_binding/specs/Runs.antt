@@ -1,7 +1,7 @@
 -- WHAT A RUN IS.
 use Rattle.std.specs.Prelude.{ℕ, ◌⊎◌, List, [], ◌∷◌, Option, IfSome}
 use Rattle.pg_binding.specs.Prelude.{Bytes, ConsoleTold, DONE, FAULTY_GAME, Grows, Holding}
-use Rattle.pg_binding.specs.Prelude.{NO_MEANING, NO_MEMORY, READ_FAILED, REFUSED, SaysNothing}
+use Rattle.pg_binding.specs.Prelude.{NO_MEMORY, READ_FAILED, REFUSED, SaysNothing}
 use Rattle.pg_binding.specs.Prelude.{WRITE_FAILED}
 use Rattle.pg_io.specs.declared.entry.Entry.TheVariants.{Said}
 use Rattle.pg_binding.specs.Books.{book_held}
@@ -10,7 +10,7 @@ use Rattle.pg_binding.specs.Due.{IsBookDue}
 -- the statuses with which a run may end
 abbrev pub book_statuses : List ℕ
 book_statuses =
-    DONE ∷ NO_MEANING ∷ FAULTY_GAME ∷ REFUSED ∷ READ_FAILED ∷ WRITE_FAILED ∷ NO_MEMORY ∷ []
+    DONE ∷ FAULTY_GAME ∷ REFUSED ∷ READ_FAILED ∷ WRITE_FAILED ∷ NO_MEMORY ∷ []
 
 -- what is due was printed at once, and nothing else
 pub record SaysBook (game certificate : Bytes) (held : Holding) (before after : ConsoleTold)

@@ -1,18 +1,24 @@
 //! Reading the game and the certificate, and what there is to print of them.
-ghost use Rattle.std.specs.Prelude.{Ok, IfErr, IfOk};
-ghost use Rattle.pg_binding.specs.Prelude.{Finds, HaltCauses, IsCertEnd, IsLackingOne};
-ghost use Rattle.pg_binding.specs.Prelude.{IsLackingTwo, IsReadHalt, Positional, ReadsOnly};
-ghost use Rattle.pg_binding.specs.Prelude.{board_entry, entry};
+ghost use Rattle.std.specs.Prelude.{◌≡◌, Ok, IfErr, IfOk};
+ghost use Rattle.pg_binding.specs.Prelude.{DONE, Finds, HaltCauses, IsLackingOne, IsLackingTwo};
+ghost use Rattle.pg_binding.specs.Prelude.{IsReadHalt, ReadsOnly, entry, span_entry, vector_entry};
+ghost use Rattle.pg_binding.specs.Games.{any_entry};
+ghost use Rattle.pg_binding.specs.Games.AnyEntry.{Connectivity, Positional, Vectors};
 ghost use Rattle.pg_binding.specs.Books.{book_held, with_evidence};
 ghost use Rattle.pg_binding.specs.Due.{IsBookDue};
 
+use crate::game::BookGame;
 use crate::order::BookOrder;
-use crate::telling::{no_book, tell_evidence};
-use pg_drawing::{Board, Telling, open_board};
+use crate::reading::open_book_game;
+use crate::telling::{tell_evidence, tell_span, tell_vectors};
+use pg_drawing::Telling;
 use pg_evidence::open_evidence;
+use pg_families::open_span_cert;
 use pg_game::Game;
+use pg_gf2::VecGame;
 use pg_io::Files;
-use pg_talk::Halt;
+use pg_span::SpanGame;
+use pg_talk::{Halt, open_certificate};
 use std::alloc::Global;
 
 /// Returns the book of the certificate under a name for a game on lines or a switching game.
@@ -25,7 +31,7 @@ fn tell_on_game<F: Files>(
     ensures found { Finds (F.told files.old).held
         (λ held. IsBookDue
         (with_evidence (Ok (Positional (entry game.now))) (held certificate.now))) result }
-    ensures status { IfOk result (λ told. IsCertEnd told.status) }
+    ensures status { IfOk result (λ told. told.status ≡ DONE) }
     ensures halts { IfErr result IsReadHalt }
     ensures causes { HaltCauses (IsLackingOne (with_evidence (Ok (Positional (entry game.now))))
         (F.told files.old).held certificate.now)
@@ -36,27 +42,72 @@ fn tell_on_game<F: Files>(
     tell_evidence(alloc, game, evidence)
 }
 
-/// Returns the book of the certificate under a name for this game, if there are books of games of
-/// its kind. The certificate is opened only then.
-fn tell_on_board<F: Files>(
+/// Returns the book of the certificate under a name for a connectivity game.
+fn tell_on_span<F: Files>(
     alloc: Global,
     files: &mut F,
-    board: &Board,
+    game: &SpanGame,
     certificate: &str,
 ) -> Result<Telling, Halt>
     ensures found { Finds (F.told files.old).held
         (λ held. IsBookDue
-        (with_evidence (Ok (board_entry board.now)) (held certificate.now))) result }
-    ensures status { IfOk result (λ told. IsCertEnd told.status) }
+        (with_evidence (Ok (Connectivity (span_entry game.now))) (held certificate.now))) result }
+    ensures status { IfOk result (λ told. told.status ≡ DONE) }
     ensures halts { IfErr result IsReadHalt }
-    ensures causes { HaltCauses (IsLackingOne (with_evidence (Ok (board_entry board.now)))
+    ensures causes { HaltCauses
+        (IsLackingOne (with_evidence (Ok (Connectivity (span_entry game.now))))
         (F.told files.old).held certificate.now)
         (F.told files.old).faults (F.told files.new).faults result }
     ensures kept { ReadsOnly (F.told files.old) (F.told files.new) }
 {
-    match board {
-        Board::Positional(game) => tell_on_game(alloc, files, game, certificate),
-        Board::Connectivity(_) => Ok(no_book(alloc)?),
+    let cert = open_span_cert(alloc, files, certificate)?;
+    tell_span(alloc, game, &cert)
+}
+
+/// Returns the book of the certificate under a name for a game on vectors.
+fn tell_on_vectors<F: Files>(
+    alloc: Global,
+    files: &mut F,
+    game: &VecGame,
+    certificate: &str,
+) -> Result<Telling, Halt>
+    ensures found { Finds (F.told files.old).held
+        (λ held. IsBookDue
+        (with_evidence (Ok (Vectors (vector_entry game.now))) (held certificate.now))) result }
+    ensures status { IfOk result (λ told. told.status ≡ DONE) }
+    ensures halts { IfErr result IsReadHalt }
+    ensures causes { HaltCauses
+        (IsLackingOne (with_evidence (Ok (Vectors (vector_entry game.now))))
+        (F.told files.old).held certificate.now)
+        (F.told files.old).faults (F.told files.new).faults result }
+    ensures kept { ReadsOnly (F.told files.old) (F.told files.new) }
+{
+    let cert = open_certificate(alloc, files, certificate)?;
+    tell_vectors(alloc, game, &cert)
+}
+
+/// Returns the book of the certificate under a name for this game. The certificate is read as one
+/// of the game's kind.
+fn tell_on<F: Files>(
+    alloc: Global,
+    files: &mut F,
+    game: &BookGame,
+    certificate: &str,
+) -> Result<Telling, Halt>
+    ensures found { Finds (F.told files.old).held
+        (λ held. IsBookDue
+        (with_evidence (Ok (any_entry game.now)) (held certificate.now))) result }
+    ensures status { IfOk result (λ told. told.status ≡ DONE) }
+    ensures halts { IfErr result IsReadHalt }
+    ensures causes { HaltCauses (IsLackingOne (with_evidence (Ok (any_entry game.now)))
+        (F.told files.old).held certificate.now)
+        (F.told files.old).faults (F.told files.new).faults result }
+    ensures kept { ReadsOnly (F.told files.old) (F.told files.new) }
+{
+    match game {
+        BookGame::Positional(on) => tell_on_game(alloc, files, on, certificate),
+        BookGame::Connectivity(on) => tell_on_span(alloc, files, on, certificate),
+        BookGame::Vectors(on) => tell_on_vectors(alloc, files, on, certificate),
     }
 }
 
@@ -69,13 +120,13 @@ pub(crate) fn tell<F: Files>(
     ensures found { Finds (F.told files.old).held
         (λ held. IsBookDue (book_held (held order.entry.game.now)
         (held order.entry.certificate.now))) result }
-    ensures status { IfOk result (λ told. IsCertEnd told.status) }
+    ensures status { IfOk result (λ told. told.status ≡ DONE) }
     ensures halts { IfErr result IsReadHalt }
     ensures causes { HaltCauses (IsLackingTwo book_held (F.told files.old).held
         order.entry.game.now order.entry.certificate.now)
         (F.told files.old).faults (F.told files.new).faults result }
     ensures kept { ReadsOnly (F.told files.old) (F.told files.new) }
 {
-    let board = open_board(alloc, files, order.game)?;
-    tell_on_board(alloc, files, &board, order.certificate)
+    let game = open_book_game(alloc, files, order.game)?;
+    tell_on(alloc, files, &game, order.certificate)
 }

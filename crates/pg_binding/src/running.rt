@@ -14,11 +14,11 @@ use pg_talk::Halt;
 use std::alloc::Global;
 
 /// Prints the proof of a certificate as a book, one page of HTML, and returns the status. The game
-/// is one on lines of points or a switching game. The certificate may have images: the book is then
-/// that of the certificate for which it stands. It is checked first.
+/// is one on lines of points, a switching game, a connectivity game or one on vectors. The
+/// certificate of the first two may have images: the book is then that of the certificate for which
+/// it stands. It is checked first.
 ///
 /// - 0: the book is printed, and the certificate is valid for the game.
-/// - 2: there are no books of games of this kind, and that is printed. The certificate isn't read.
 /// - 3: the game file is invalid.
 /// - 4: the certificate file is invalid, or the certificate isn't valid for the game.
 /// - 5: a read failed, or a file is missing; nothing is printed.

@@ -1,38 +1,28 @@
 //! What there is to print of a game and a certificate that were read.
-ghost use Rattle.std.specs.Prelude.{◌≡◌, IfErr, IfOk, string_bytes};
+ghost use Rattle.std.specs.Prelude.{◌≡◌, IfErr, IfOk};
 ghost use Rattle.pg_binding.specs.Prelude.{DONE, IsFound, IsInnerHalt, IsWithinItsLimits};
-ghost use Rattle.pg_binding.specs.Prelude.{IsWithinLimits};
-ghost use Rattle.pg_binding.specs.Due.{IsBookOfNone, IsEvidenceDue, IsWholeBook};
+ghost use Rattle.pg_binding.specs.Prelude.{IsWithinLimits, IsWithinRanges, book_text};
+ghost use Rattle.pg_binding.specs.Prelude.{span_book_text, vector_book_text};
+ghost use Rattle.pg_binding.specs.Due.{AreVectorsDue, IsEvidenceDue, IsSpanDue, IsWholeBook};
 
-use pg_base::Memory;
 use pg_book::print_book;
 use pg_cert::Cert;
 use pg_check::CheckFault;
 use pg_drawing::Telling;
 use pg_evidence::{Evidence, check_standing, standing_of};
+use pg_family_book::{print_span_book, print_vector_book};
 use pg_game::Game;
+use pg_gf2::{VecFault, VecGame, vec_check};
 use pg_io::Stop;
-use pg_messages::{DONE, NO_MEANING, Refusal};
+use pg_messages::{DONE, Refusal};
+use pg_span::{SpanCert, SpanFault, SpanGame, span_check};
 use pg_talk::Halt;
 use std::alloc::Global;
-
-/// The line that is printed if there are no books of games of the kind.
-pub const NO_BOOK: &str = "words: no book of this kind of game\n";
-
-/// Returns the line that there is no book of the game.
-pub(crate) fn no_book(alloc: Global) -> Result<Telling, Memory>
-    ensures { IfOk result (λ told. IsBookOfNone (string_bytes told.words) told.status) }
-{
-    Ok(Telling {
-        words: String::from_str(alloc, NO_BOOK)?,
-        status: NO_MEANING,
-    })
-}
 
 /// Returns the book of a certificate.
 fn whole_book(alloc: Global, game: &Game, cert: &Cert) -> Result<Telling, Halt>
     requires { IsWithinLimits cert.now }
-    ensures { IsWholeBook game.now cert.now result }
+    ensures { IsWholeBook (book_text game.now cert.now) result }
 {
     let words = print_book(alloc, game, cert)?;
     Ok(Telling {
@@ -60,5 +50,76 @@ pub(crate) fn tell_evidence(alloc: Global, game: &Game, evidence: Evidence) -> R
             Err(Halt::Refused(Refusal::Rejected { claim, node, why }))
         }
         Err(CheckFault::Memory) => Err(Halt::Stopped(Stop::Memory)),
+    }
+}
+
+/// Returns the book of a connectivity game's certificate.
+fn whole_span_book(alloc: Global, game: &SpanGame, cert: &SpanCert) -> Result<Telling, Halt>
+    requires { IsWithinRanges cert.now }
+    ensures { IsWholeBook (span_book_text game.now cert.now) result }
+{
+    let words = print_span_book(alloc, game, cert)?;
+    Ok(Telling {
+        words,
+        status: DONE,
+    })
+}
+
+/// Returns the book of a connectivity game's certificate, if that is valid.
+///
+/// # Errors
+///
+/// `Halt::Refused` with `RejectedSpan` if it isn't valid, with its first fault. `Halt::Stopped`
+/// with `Stop::Memory` if no memory is found.
+pub(crate) fn tell_span(alloc: Global, game: &SpanGame, cert: &SpanCert) -> Result<Telling, Halt>
+    requires { IsWithinRanges cert.now }
+    ensures found { IsFound (IsSpanDue game.now cert.now) result }
+    ensures status { IfOk result (λ told. told.status ≡ DONE) }
+    ensures halts { IfErr result IsInnerHalt }
+{
+    match span_check(alloc, game, cert) {
+        Ok(_) => whole_span_book(alloc, game, cert),
+        Err(SpanFault::Reject { claim, why }) => Err(Halt::Refused(Refusal::RejectedSpan {
+            claim,
+            why: why.number(),
+        })),
+        Err(SpanFault::Memory) => Err(Halt::Stopped(Stop::Memory)),
+    }
+}
+
+/// Returns the book of a certificate of a game on vectors.
+fn whole_vector_book(alloc: Global, game: &VecGame, cert: &Cert) -> Result<Telling, Halt>
+    requires { IsWithinLimits cert.now }
+    ensures { IsWholeBook (vector_book_text game.now cert.now) result }
+{
+    let words = print_vector_book(alloc, game, cert)?;
+    Ok(Telling {
+        words,
+        status: DONE,
+    })
+}
+
+/// Returns the book of a certificate of a game on vectors, if that is valid.
+///
+/// # Errors
+///
+/// `Halt::Refused` with `RejectedVectors` if it isn't valid, with its first fault. `Halt::Stopped`
+/// with `Stop::Memory` if no memory is found.
+pub(crate) fn tell_vectors(alloc: Global, game: &VecGame, cert: &Cert) -> Result<Telling, Halt>
+    requires { IsWithinLimits cert.now }
+    ensures found { IsFound (AreVectorsDue game.now cert.now) result }
+    ensures status { IfOk result (λ told. told.status ≡ DONE) }
+    ensures halts { IfErr result IsInnerHalt }
+{
+    match vec_check(alloc, game, cert) {
+        Ok(_) => whole_vector_book(alloc, game, cert),
+        Err(VecFault::Reject { claim, node, why }) => Err(Halt::Refused(
+            Refusal::RejectedVectors {
+                claim,
+                node,
+                why: why.number(),
+            },
+        )),
+        Err(VecFault::Memory) => Err(Halt::Stopped(Stop::Memory)),
     }
 }

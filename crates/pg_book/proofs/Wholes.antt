@@ -108,7 +108,7 @@ module _ (ok : Bytes → Type 0) where
   meta-part name content = lone-part ok lone.Meta
       (worded names.Name name ∷ worded names.Content content ∷ []) refl
 
-  metas-part : IsPart ok [] metas_pieces
+  pub metas-part : IsPart ok [] metas_pieces
   metas-part = then-part ok [] charset_pieces (viewport_pieces ++ scheme_pieces)
       (lone-part ok lone.Meta (worded names.Charset (codes "utf-8") ∷ []) refl)
       (then-part ok [] viewport_pieces scheme_pieces

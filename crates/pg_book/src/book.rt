@@ -117,8 +117,8 @@ fn push_shown(
     push_close(pieces, Tag::Body)
 }
 
-/// Adds the tag that opens the page.
-fn push_html(alloc: Global, pieces: &mut Vec<Piece>) -> Result<(), Memory>
+/// Adds the tag that opens a page. An error means that memory ran out.
+pub fn push_html(alloc: Global, pieces: &mut Vec<Piece>) -> Result<(), Memory>
     ensures { OnOk result (pieces.new.items ≡ pieces.old.items ++ html_pieces) }
 {
     let attributes = Attributes::none(alloc).words(alloc, Name::Lang, "en")?;

@@ -45,7 +45,7 @@ pub(crate) const LEGEND_STEPS: &str = "A small number in a picture is that of a 
     those of forced replies dashed.";
 
 /// What a reader has to know of the page itself.
-pub(crate) const NOTHING_RUNS: &str = "Page 1 is where the game begins. Nothing on this page runs: \
+pub const NOTHING_RUNS: &str = "Page 1 is where the game begins. Nothing on this page runs: \
     it has links and choices alone. The page that is chosen is printed, or all if none is.";
 
 /// Adds something that is said of the page.
@@ -76,8 +76,8 @@ fn push_charset(alloc: Global, pieces: &mut Vec<Piece>) -> Result<(), Memory>
     Ok(())
 }
 
-/// Adds what is said of the page.
-fn push_metas(alloc: Global, pieces: &mut Vec<Piece>) -> Result<(), Memory>
+/// Adds what is said of a page. An error means that memory ran out.
+pub fn push_metas(alloc: Global, pieces: &mut Vec<Piece>) -> Result<(), Memory>
     ensures { OnOk result (pieces.new.items ≡ pieces.old.items ++ metas_pieces) }
 {
     push_charset(alloc, pieces)?;

@@ -139,8 +139,8 @@ fn page_class(page: Page) -> &'static str
     if is_first(page) { "first" } else { "later" }
 }
 
-/// The attributes of a page's section.
-fn page_attributes(alloc: Global, page: Page) -> Result<Attributes, Memory>
+/// Returns the attributes of a page's section. An error means that memory ran out.
+pub fn page_attributes(alloc: Global, page: Page) -> Result<Attributes, Memory>
     ensures { IfOk result (λ found. found ≡ page_attributes page.chapter page.number) }
 {
     let id = page_id(alloc, page.chapter, page.number)?;
@@ -149,8 +149,8 @@ fn page_attributes(alloc: Global, page: Page) -> Result<Attributes, Memory>
         .words(alloc, Name::Class, page_class(page))
 }
 
-/// Adds the heading of a page.
-fn push_heading(alloc: Global, pieces: &mut Vec<Piece>, page: Page) -> Result<(), Memory>
+/// Adds the heading of a page. An error means that memory ran out.
+pub fn push_heading(alloc: Global, pieces: &mut Vec<Piece>, page: Page) -> Result<(), Memory>
     ensures { OnOk result
         (pieces.new.items ≡ pieces.old.items ++ heading_pieces page.chapter page.number) }
 {

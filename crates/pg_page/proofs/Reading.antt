@@ -243,8 +243,12 @@ tag-named tags.Section = record { opens = λ so_far. refl; closes = λ so_far. r
 tag-named tags.Strong = record { opens = λ so_far. refl; closes = λ so_far. refl }
 tag-named tags.Summary = record { opens = λ so_far. refl; closes = λ so_far. refl }
 tag-named tags.Svg = record { opens = λ so_far. refl; closes = λ so_far. refl }
+tag-named tags.Table = record { opens = λ so_far. refl; closes = λ so_far. refl }
+tag-named tags.Td = record { opens = λ so_far. refl; closes = λ so_far. refl }
 tag-named tags.Text = record { opens = λ so_far. refl; closes = λ so_far. refl }
+tag-named tags.Th = record { opens = λ so_far. refl; closes = λ so_far. refl }
 tag-named tags.Title = record { opens = λ so_far. refl; closes = λ so_far. refl }
+tag-named tags.Tr = record { opens = λ so_far. refl; closes = λ so_far. refl }
 tag-named tags.Ul = record { opens = λ so_far. refl; closes = λ so_far. refl }
 
 lone-named : (tag : LoneTag) → IsName (lone_name tag)

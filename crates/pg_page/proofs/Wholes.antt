@@ -46,8 +46,12 @@ tag-same tags.Section = refl
 tag-same tags.Strong = refl
 tag-same tags.Summary = refl
 tag-same tags.Svg = refl
+tag-same tags.Table = refl
+tag-same tags.Td = refl
 tag-same tags.Text = refl
+tag-same tags.Th = refl
 tag-same tags.Title = refl
+tag-same tags.Tr = refl
 tag-same tags.Ul = refl
 
 lone-same : (tag : LoneTag) → bytes_eq (lone_name tag) (lone_name tag) ≡ true
@@ -79,8 +83,12 @@ tag-inert tags.Section = refl
 tag-inert tags.Strong = refl
 tag-inert tags.Summary = refl
 tag-inert tags.Svg = refl
+tag-inert tags.Table = refl
+tag-inert tags.Td = refl
 tag-inert tags.Text = refl
+tag-inert tags.Th = refl
 tag-inert tags.Title = refl
+tag-inert tags.Tr = refl
 tag-inert tags.Ul = refl
 
 lone-inert : (tag : LoneTag) → list_any (bytes_eq (lone_name tag)) active_tags ≡ false

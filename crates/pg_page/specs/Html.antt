@@ -77,8 +77,12 @@ tag_name tags.Section = codes "section"
 tag_name tags.Strong = codes "strong"
 tag_name tags.Summary = codes "summary"
 tag_name tags.Svg = codes "svg"
+tag_name tags.Table = codes "table"
+tag_name tags.Td = codes "td"
 tag_name tags.Text = codes "text"
+tag_name tags.Th = codes "th"
 tag_name tags.Title = codes "title"
+tag_name tags.Tr = codes "tr"
 tag_name tags.Ul = codes "ul"
 
 -- the name of a tag with nothing in it

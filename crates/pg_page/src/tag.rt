@@ -47,10 +47,18 @@ pub enum Tag {
     Summary,
     /// A picture.
     Svg,
+    /// A table.
+    Table,
+    /// A cell of a table.
+    Td,
     /// Words in a picture.
     Text,
+    /// The heading of a column of a table.
+    Th,
     /// The title of a page or of a part of a picture.
     Title,
+    /// A row of a table.
+    Tr,
     /// A list.
     Ul,
 }
@@ -82,8 +90,12 @@ impl Tag {
             Tag::Strong => "strong",
             Tag::Summary => "summary",
             Tag::Svg => "svg",
+            Tag::Table => "table",
+            Tag::Td => "td",
             Tag::Text => "text",
+            Tag::Th => "th",
             Tag::Title => "title",
+            Tag::Tr => "tr",
             Tag::Ul => "ul",
         }
     }

@@ -28,14 +28,13 @@ fn say_unreadable(rt: &HostRuntime, answer: &Result<Asked<'_>, Error>) {
     }
 }
 
-/// Says why words have no meaning: by `clap`, if it has something to say, or that the node or the
-/// book isn't there.
+/// Says why words have no meaning: by `clap`, if it has something to say, or that the node isn't
+/// there.
 fn say_meaningless(rt: &HostRuntime, answer: Result<Asked<'_>, Error>) {
     let _ = match answer {
         Err(error) => error.print(rt),
-        Ok(Asked::Picture(_)) => eprintln!(rt; "{NAME}: there is no such node"),
         Ok(Asked::Recorded(..)) => eprintln!(rt; "{NAME}: there is no such move"),
-        Ok(Asked::Book(_)) => eprintln!(rt; "{NAME}: there are no books of games of this kind"),
+        Ok(_) => eprintln!(rt; "{NAME}: there is no such node"),
     };
 }
 

@@ -1,6 +1,7 @@
 use Rattle.std.proofs.Common.{Err, ap}
 use Rattle.std.proofs.lemmas.Result.{err_from_is_err_and}
 use Rattle.pg_check.specs.declared.checked.CheckFault.{CheckFault}
+use Rattle.pg_binding.proofs.Common.{book_text}
 use Rattle.pg_evidence.proofs.Tracing.{stands_for, stood_fault}
 use Rattle.pg_binding.proofs.Found.{book_due, rejected_due, unmade_due, whole_done, whole_halts}
 use Rattle.pg_binding.proofs.telling.tell_evidence.Goals as goal
@@ -18,12 +19,14 @@ returns-in-Ok-clause-found c = book_due c.args.game.now c.args.evidence
     c.in-Ok.ensures.valid c.whole_book.result c.whole_book.ensures
 
 pub returns-in-Ok-clause-status : goal.returns-in-Ok-clause-status
-returns-in-Ok-clause-status c = whole_done c.args.game.now c.in_ok-standing.standing.cert
-    c.whole_book.result c.whole_book.ensures
+returns-in-Ok-clause-status c =
+    whole_done (book_text c.args.game.now c.in_ok-standing.standing.cert) c.whole_book.result
+    c.whole_book.ensures
 
 pub returns-in-Ok-clause-halts : goal.returns-in-Ok-clause-halts
-returns-in-Ok-clause-halts c = whole_halts c.args.game.now c.in_ok-standing.standing.cert
-    c.whole_book.result c.whole_book.ensures
+returns-in-Ok-clause-halts c =
+    whole_halts (book_text c.args.game.now c.in_ok-standing.standing.cert) c.whole_book.result
+    c.whole_book.ensures
 
 pub returns-in-Err-Reject-clause-found : goal.returns-in-Err-Reject-clause-found
 returns-in-Err-Reject-clause-found c =

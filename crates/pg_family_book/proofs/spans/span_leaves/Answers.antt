@@ -1,0 +1,10 @@
+use Rattle.std.proofs.Common.{[]}
+use Rattle.std.specs.Prelude.{slice_get}
+use Rattle.pg_gen.proofs.Boards.{flat_next}
+use Rattle.pg_family_book.specs.Spans.{span_by}
+use Rattle.pg_family_book.proofs.spans.span_leaves.Goals as goal
+
+pub loop-number-preserved : goal.loop-number-preserved
+loop-number-preserved c = flat_next
+    (λ i. span_by c.args.g.now i (slice_get c.args.cert.now.claims i))
+    c.loop-number.number [] _ _ c.in_ok-put_leaf.ensures c.loop-number.invariant

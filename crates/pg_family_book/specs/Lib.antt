@@ -1,0 +1,4 @@
+pub mod Leaves
+pub mod Rules
+pub mod Spans
+pub mod Vectors
