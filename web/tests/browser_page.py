@@ -28,7 +28,7 @@ from browser import Browser  # noqa: E402
 
 PATIENCE, PHONE = 60.0, 360
 TIPPY = "posgame 1\nkind maker-breaker\ngrid 5 5\nshape 110/011\nturn x\n"
-HARD = "posgame 1\nkind maker-breaker\ngrid 7 7\nshape 11111\nturn x\n"
+HARD = "posgame 1\nkind maker-breaker\ngrid 9 9\nshape 11110/00011\nturn x\n"
 PAIRS = kit.EXAMPLES / "noughts-and-crosses.game", kit.EXAMPLES / "breaker-in-the-centre.cert"
 MIDDLE = """(() => {
   const it = document.querySelectorAll(%s)[%d];

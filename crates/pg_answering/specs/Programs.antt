@@ -3,13 +3,14 @@ use Rattle.std.specs.Prelude.{if◌then◌else◌, List, [], ◌∷◌, Option, 
 use Rattle.std.specs.Str.{bytes_eq}
 use Rattle.pg_io.specs.Files.{Bytes}
 use Rattle.pg_answering.specs.declared.program.Program.{Program}
-use Rattle.pg_answering.specs.declared.program.Program.TheVariants.{Posgame, Settle}
+use Rattle.pg_answering.specs.declared.program.Program.TheVariants.{Posgame, Settle, Draw}
 
 -- the program of this name
 abbrev pub program_named : Bytes → Option Program
 program_named name =
     if bytes_eq (codes "posgame") name then Some Posgame
     else if bytes_eq (codes "posgame-settle") name then Some Settle
+    else if bytes_eq (codes "posgame-draw") name then Some Draw
     else None
 
 -- the program that the first word names

@@ -5,6 +5,7 @@ ghost use Rattle.pg_answering.specs.Answers.{Answers, Runs};
 ghost use Rattle.pg_answering.specs.Machine.{told_by};
 ghost use Rattle.pg_answering.specs.Programs.{arguments_of};
 
+use crate::drawing::run_draw;
 use crate::machine::Machine;
 use crate::program::Program;
 use crate::settling::run_settle;
@@ -21,6 +22,7 @@ fn run(alloc: Global, program: Program, arguments: &[String], machine: &mut Mach
     match program {
         Program::Posgame => run_posgame(alloc, arguments, machine),
         Program::Settle => run_settle(alloc, arguments, machine),
+        Program::Draw => run_draw(alloc, arguments, machine),
     }
 }
 

@@ -2,6 +2,7 @@
 #![tactic(auto)]
 
 mod answering;
+mod drawing;
 mod machine;
 mod program;
 mod responding;
@@ -10,6 +11,7 @@ mod solving;
 mod tasks;
 
 pub use answering::answer_to;
+pub use drawing::run_draw;
 pub use machine::Machine;
 pub use program::{Program, program_named};
 pub use responding::{NO_PROGRAM, OUT_OF_MEMORY, respond};

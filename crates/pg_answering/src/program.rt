@@ -9,6 +9,8 @@ pub enum Program {
     Posgame,
     /// `posgame-settle`.
     Settle,
+    /// `posgame-draw`.
+    Draw,
 }
 
 /// Returns the program of this name.
@@ -19,6 +21,8 @@ pub fn program_named(name: &[u8]) -> Option<Program>
         Some(Program::Posgame)
     } else if "posgame-settle".as_bytes() == name {
         Some(Program::Settle)
+    } else if "posgame-draw".as_bytes() == name {
+        Some(Program::Draw)
     } else {
         None
     }
