@@ -314,9 +314,12 @@ def plays(script: pathlib.Path, room: pathlib.Path) -> int:
     slip, record = "examples/rosette-with-a-slip.game", str(room / "P")
     cases = [
         Case([BOARD, "--record"], 2, "", "--record"),
-        Case([BOARD, "one-too-many"], 2, "", "one-too-many"),
+        Case([BOARD, PAIRS, "one-too-many"], 2, "", "one-too-many"),
+        Case([BOARD, PAIRS, "--side", "x"], 2, "words: no claim for side x\n", "^$"),
         Case([slip], 3, "game G6 line 4\n", "line 4: .* .G6.\n    line"),
+        Case([BOARD, FAULTY], 4, "rejected J6 claim 0 node 0\n", "node 0: .* .J6.\n    .4.x.pairs"),
         Case(["none"], 5, "", "none: "),
+        Case([BOARD, "none"], 5, "", "none: "),
     ]
     for case in cases:
         try_case(script, case)
@@ -326,10 +329,12 @@ def plays(script: pathlib.Path, room: pathlib.Path) -> int:
     expect(not ended.stderr, f"a play: {ended.stderr!r}")
     shown = run(TOP / "posgame", ["review", BOARD, record]).stdout
     expect(shown == "reviewed 1\n", f"its record: {shown!r}")
+    ended = run(script, [BOARD, PAIRS], input="b1\nquit\n")
+    expect(ended.returncode == 0 and "I claim a1.\n" in ended.stdout, f"by pairs: {ended}")
     ended = run(script, [BOARD, "--record", str(room / "none" / "P")])
     said = re.search("warning: .*: there is no folder", ended.stderr)
     expect(ended.returncode == 6 and said is not None, f"no folder: {ended}")
-    return len(cases) + 3
+    return len(cases) + 4
 
 
 def played() -> str:
