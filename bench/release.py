@@ -277,7 +277,7 @@ COMPLETIONS = (
     ("posgame check wheel.game x.cert ", ""),
     ("posgame-draw tippy-c", "tippy-corner.game"),
     ("posgame-draw wheel.game tippy-by", "tippy-by-its-corner.cert"),
-    ("posgame-draw --b", "--book"),
+    ("posgame-draw --b", "--blank --book"),
     ("posgame-draw --no-l", "--no-legend --no-lines"),
     ("posgame-draw --size ", ""),
     ("posgame-draw --size 300 tippy-c", "tippy-corner.game"),

@@ -152,7 +152,8 @@ class Lines(unittest.TestCase):
 class Screens(unittest.TestCase):
     def test_rows(self) -> None:
         rows = table.plays()
-        self.assertEqual([it.name for it in rows], ["grid", "bridg-it", "ring", "undo"])
+        against = [f"against-{it}" for it in ("pairs", "cuts", "a-potential", "moves")]
+        self.assertEqual([it.name for it in rows], ["grid", "bridg-it", "ring", "undo", *against])
         for row in rows:
             self.assertTrue((kit.EXAMPLES / row.words[0]).exists())
             self.assertTrue((table.SCREENS / f"{row.name}.txt").exists())
