@@ -305,20 +305,29 @@ def plays(page: Page, posgame: str, _: str) -> None:
 
 
 def shows(page: Page, _: str, draw: str) -> None:
-    """Books and pictures are shown, and saved as natively; a book's links lead on."""
+    """Pictures are shown, and saved as natively; where a book would be it is said that none is."""
     page.use(TIPPY)
     page.press("show-picture")
     page.expect("a board", page.js("document.getElementById('picture').naturalWidth > 100"), True)
     page.press("solve")
+    certificate = page.save("save-certificate", "posgame.cert").decode()
+    with kit.files(game=TIPPY, certificate=certificate) as folder:
+        native = kit.call(draw, folder / "game", folder / "certificate").stdout
+    page.expect("picture", page.save("save-picture", "posgame.svg").decode(), native)
+    page.press("show-book")
+    page.says("no book", "book-said", "knows no such request")
+
+
+def shows_books(page: Page, _: str, draw: str) -> None:
+    """A book is shown, and saved as natively; its links lead on. It needs a library with books."""
+    page.use(TIPPY)
+    page.press("solve")
     page.press("show-book")
     page.expect("closed to scripts", page.js("document.getElementById('book').sandbox.value"), "")
-    with kit.files(game=TIPPY, certificate=page.save("save-certificate", "posgame.cert").decode()
-                   ) as folder:
-        paths = folder / "game", folder / "certificate"
-        native = {"posgame.html": kit.call(draw, "--book", *paths).stdout,
-                  "posgame.svg": kit.call(draw, *paths).stdout}
-    page.expect("book", page.save("save-book", "posgame.html").decode(), native["posgame.html"])
-    page.expect("picture", page.save("save-picture", "posgame.svg").decode(), native["posgame.svg"])
+    certificate = page.save("save-certificate", "posgame.cert").decode()
+    with kit.files(game=TIPPY, certificate=certificate) as folder:
+        native = kit.call(draw, "--book", folder / "game", folder / "certificate").stdout
+    page.expect("book", page.save("save-book", "posgame.html").decode(), native)
     page.js("document.getElementById('book').scrollIntoView({block: 'center'})")
     time.sleep(0.5)
     page.expect("pages of the book", follow_link(page), ["p1", "p2"])
@@ -444,7 +453,7 @@ def main() -> int:
                         only=("", "the part of this name"), photographs=(None, "a folder"))
     with tempfile.TemporaryDirectory() as saved, Browser(1100, 900) as browser:
         page = Page(browser, pathlib.Path(given.page), pathlib.Path(saved))
-        for part in PARTS:
+        for part in [shows_books] if given.only == "shows_books" else PARTS:
             if given.only in part.__name__:
                 begun = time.monotonic()
                 page.open()
