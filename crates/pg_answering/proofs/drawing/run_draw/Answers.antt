@@ -9,4 +9,4 @@ returns-in-len4-up c = many_draw string_bytes c.args.arguments.now _ _ _
 
 pub returns-in_default : goal.returns-in_default
 returns-in_default c = few_draw string_bytes c.args.arguments.now _ _ _
-    c.in_default.len_below c.print_picture-in_default.ensures
+    c.in_default.len_below c.print_picture.ensures
