@@ -1,5 +1,5 @@
 -- Words that ask for no book.
-use Rattle.std.proofs.Common.{◌<◌, ◌≤◌, ℕ, List, [], ◌∷◌, length, map, refl, arith}
+use Rattle.std.proofs.Common.{◌<◌, ◌≤◌, ℕ, List, [], ◌∷◌, length, map, arith}
 use Rattle.pg_io.specs.Files.{Bytes}
 use Rattle.pg_answering.specs.Drawing.{Draws, DrawsPicture, sheet_of}
 use Rattle.pg_answering.specs.Machine.{Told}

@@ -1,5 +1,4 @@
 use Rattle.std.proofs.Common.{string_bytes}
-use Rattle.pg_answering.specs.Machine.{told_by}
 use Rattle.pg_answering.proofs.Sheets.{few_draw, many_draw}
 use Rattle.pg_answering.proofs.drawing.run_draw.Goals as goal
 
