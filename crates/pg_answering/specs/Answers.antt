@@ -5,7 +5,7 @@ use Rattle.pg_io.specs.Files.{Bytes, Holding}
 use Rattle.pg_io.specs.declared.entry.Entry.{Entry}
 use Rattle.pg_request.specs.Answer.{answer}
 use Rattle.pg_request.specs.Request.{Asked}
-use Rattle.pg_answering.specs.Drawing.{DrawsPicture}
+use Rattle.pg_answering.specs.Drawing.{Draws, sheet_of}
 use Rattle.pg_answering.specs.Machine.{Told, fresh}
 use Rattle.pg_answering.specs.Programs.{arguments_of, program_of}
 use Rattle.pg_answering.specs.Settling.{DoesTask}
@@ -20,7 +20,7 @@ use Rattle.pg_answering.specs.declared.responding.TheConstants.{NO_PROGRAM, OUT_
 abbrev pub Runs : Program → List Bytes → Told → Told → ℕ → Type 0
 Runs Posgame arguments before after status = RunsPosgame arguments before after status
 Runs Settle arguments before after status = DoesTask (task_of arguments) before after status
-Runs Draw arguments before after status = DrawsPicture arguments before after status
+Runs Draw arguments before after status = Draws (sheet_of arguments) before after status
 
 -- The bytes are the answer to the request: the program was run with the words after the first, on
 -- the files and the input of the request, and the bytes are the status, all that was printed and
