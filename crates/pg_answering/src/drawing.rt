@@ -29,12 +29,7 @@ fn print_book(alloc: Global, game: &str, certificate: &str, machine: &mut Machin
         (told_by machine.old) (told_by machine.new) result }
 {
     let order = BookOrder { game, certificate };
-    bind(
-        alloc,
-        order,
-        &mut machine.files,
-        &mut machine.console,
-    )
+    bind(alloc, order, &mut machine.files, &mut machine.console)
 }
 
 /// Runs `posgame-draw` with these arguments on the machine, and returns the status: `--book GAME
