@@ -47,6 +47,7 @@ BENCHES = {
     "Screens of games at a terminal": "table.py screens",
     "Lines typed at a terminal": "table.py lines",
     "Lines typed at certificates": "duel.py",
+    "Games against a search": "computer.py",
     "Files, names and consoles of the system that fail, and kills": "real_files.py",
     "Mutated files, words and dialogues": "fuzz.py --runs 20000",
     "Each allocation of 22 runs refused in turn": "memory.py",

@@ -1,8 +1,8 @@
 #!/usr/bin/env python3
 """Compares launch/codes.txt with the lists of codes in docs/FORMATS.md, or writes it from them.
 
-An item of such a list begins with a code in bold type: a letter G, C, J, F, S, V, I or P and a
-number.
+An item of such a list begins with a code in bold type: a letter G, C, J, F, S, V, I, P or L and
+a number.
 The file has a line for each code: the code, a tab and the text, by which `posgame-why` and the
 scripts explain it.
 """
@@ -15,7 +15,7 @@ import kit
 
 LISTS = kit.TOP / "docs" / "FORMATS.md"
 CODES = kit.TOP / "launch" / "codes.txt"
-ITEM = re.compile(r"^- \*\*([GCJFSVIP]\d+)\*\*: (.+(?:\n  .+)*)", re.MULTILINE)
+ITEM = re.compile(r"^- \*\*([GCJFSVIPL]\d+)\*\*: (.+(?:\n  .+)*)", re.MULTILINE)
 
 
 def lines_of(text: str) -> str:

@@ -7,8 +7,10 @@ A solver (posgame) proves each game. Lines of commands, names, numbers and bytes
 posgame-play with the certificate, for each side with a claim and each side that may begin. The
 script computes what the program must print and store from the rules in docs/FORMATS.md, but for the
 points that the program claims: it takes those from the output, looks whether they are legal and the
-same after the same replies, and whether a game that is over has reached the claim's goal. The
-status is 1 if anything differs. Tried by `bench/test_table.py`. Nothing here is proved.
+same after the same replies, and whether a game that is over has reached the claim's goal. The rule
+that is named with each point is that of the node at which the claim then is: the script reads the
+nodes of the certificate, and follows them. The status is 1 if anything differs. Tried by
+`bench/test_table.py`. Nothing here is proved.
 """
 from __future__ import annotations
 
@@ -21,33 +23,77 @@ import kit
 import table
 
 GOALS = {"win": "win", "draw": "don't lose"}
+# What a node's body is called when the program moves by it.
+RULES = {"move": "the proof", "pairs": "pairs", "potential": "weights", "trees": "two trees",
+         "cuts": "two cuts", "threat": "threats"}
+MEANINGS = """The words before my moves say by which rule I keep my promise:
+the proof  the move that the certificate names here
+pairs      each open line has a pair: if you take one of it, I take the other
+weights    a point of greatest weight, or of least weight if I avoid lines
+two trees  an edge of one of two sets, each of which joins what X is to join
+two cuts   an edge of one of two sets, each of which parts what O is to part
+threats    an attack that you must answer, or the point that fills a line
+"""
+
+
+def bodies_of(proof: str, claim: str) -> list[list[str]]:
+    """Returns the words of the bodies of a claim's nodes.
+
+    >>> bodies_of("claim x x win\\nnodes 2\\n0|1|x|over\\n|1|x|move 0 0\\n", "x x win")
+    [['over'], ['move', '0', '0']]
+    """
+    _, rows = proof.split(f"claim {claim}\n", 1)
+    return [it.rsplit("|", 1)[1].split() for it in rows.split("\nclaim ")[0].splitlines()[1:]]
+
+
+class Guide:
+    """Where the program is in its claim, of which the bodies are known: at a node, first the
+    last."""
+
+    def __init__(self, bodies: list[list[str]]) -> None:
+        self.bodies, self.at = bodies, len(bodies) - 1
+
+    def rule(self) -> str:
+        """Returns by which rule the program moves."""
+        return RULES[self.bodies[self.at][0]]
+
+    def move(self) -> None:
+        """Follows the program's move."""
+        body = self.bodies[self.at]
+        if body[0] == "move":
+            self.at = int(body[2])
+
+    def reply(self, point: int) -> None:
+        """Follows a reply."""
+        body = self.bodies[self.at]
+        if body[0] == "all":
+            self.at = next(int(it.split(":")[1]) for it in body[1:] if it.startswith(f"{point}:"))
 
 
 class Duel:
-    """A game against the program, of which an output is known."""
+    """A game against the program, of which an output and the bodies of the claim are known."""
 
-    def __init__(self, board: table.Board, claim: list[str], output: str) -> None:
-        self.board, self.output, self.due = board, output, ""
+    def __init__(self, board: table.Board, claim: list[str], bodies: list[list[str]],
+                 output: str) -> None:
+        self.board, self.bodies, self.output, self.due = board, bodies, output, ""
         self.turn, self.side, self.goal = claim
-        self.replies: list[int] = []
         self.owns: dict[tuple[int, ...], list[int]] = {}
-        self.table = self.start()
+        self.start()
 
-    def start(self) -> table.Table:
-        """Returns the game at its first position."""
-        start = table.Table(self.board)
+    def start(self) -> None:
+        """Begins the game."""
+        self.replies, self.guide = list[int](), Guide(self.bodies)
+        self.table = table.Table(self.board)
         left = self.board.bias if self.turn == "y" else 1
-        start.places = [(frozenset(), frozenset(), self.turn, left)]
-        return start
+        self.table.places = [(frozenset(), frozenset(), self.turn, left)]
 
     def owes(self) -> bool:
         """Returns whether the program is to move."""
         return self.table.score() is None and self.table.places[-1][2] == self.side
 
-    def told(self) -> Optional[int]:
-        """Returns the point that the program claims here by its output, if it is legal."""
-        said = "".join(f"I claim {self.board.name(it)}.\n" for it in self.own)
-        found = re.match(r"I claim (\S+)\.\n", self.output[len(self.due) + len(said):])
+    def told(self, said: str) -> Optional[int]:
+        """Returns the point that the program claims by its output after a text, if it is legal."""
+        found = re.match(r".*I take (\S+)\.\n", self.output[len(self.due) + len(said):])
         point = self.table.point(found[1]) if found else None
         is_legal = point is not None and point < self.board.points and point not in self.table.moves
         return point if is_legal else None
@@ -55,16 +101,19 @@ class Duel:
     def settle(self) -> str:
         """Makes the moves that the program owes, and returns what is printed."""
         known = self.owns.get(tuple(self.replies))
-        self.own: list[int] = []
+        own, said = list[int](), ""
         while self.owes():
-            point = self.told() if known is None else known[len(self.own)]
+            point = self.told(said) if known is None else known[len(own)]
             if point is None:
                 break
+            is_answer = self.replies and not own
+            reply = f"you took {self.board.name(self.replies[-1])}, " if is_answer else ""
+            said += f"{self.guide.rule()}: {reply}I take {self.board.name(point)}.\n"
+            self.guide.move()
             self.table.claim(point)
-            self.own.append(point)
-        self.owns[tuple(self.replies)] = self.own
+            own.append(point)
+        self.owns[tuple(self.replies)] = own
         letter = "X" if self.side == "x" else "O"
-        said = "".join(f"I claim {self.board.name(it)}.\n" for it in self.own)
         promise = f"I play {letter} and {GOALS[self.goal]}, whatever you claim.\n"
         return said + promise + self.table.screen()
 
@@ -75,13 +124,15 @@ class Duel:
         if len(self.table.moves) == count:
             return said
         self.replies.append(point)
+        self.guide.reply(point)
         return self.settle()
 
     def undo(self) -> str:
         """Takes the last reply back, and returns what is printed."""
         if not self.replies:
             return table.REFUSALS["nothing"] + self.table.turn()
-        replies, self.replies, self.table = self.replies[:-1], [], self.start()
+        replies = self.replies[:-1]
+        self.start()
         said = self.settle()
         for point in replies:
             said = self.claim(point)
@@ -95,16 +146,20 @@ class Duel:
             return self.undo()
         if len(line) < table.LONGEST and point is not None:
             return self.claim(point)
+        if text == "?":
+            return self.board.goals() + table.HELP + MEANINGS + self.table.turn()
         return self.table.answer(line)
 
     def play(self, typed: bytes) -> str:
         """Returns all that is printed of a game with these lines, with its record's text."""
-        self.due = self.settle()
-        for line in table.cut(typed)[:table.MOST_LINES]:
+        self.due, lines = self.settle(), table.cut(typed)[:table.MOST_LINES]
+        for line in lines:
             more = self.answer(line) if self.table.score() is None else None
             if more is None:
                 break
             self.due += more
+        else:
+            self.due += self.table.end(len(lines))
         return self.due + f"recorded {len(self.table.moves)}\n"
 
     def is_held(self) -> bool:
@@ -125,13 +180,14 @@ def tried(program: str, board: table.Board, proof: str, claim: list[str],
           typed: bytes) -> list[str]:
     """Returns what differs in a run with this input, and in its record."""
     turn, side, _ = claim
-    with kit.files(game=board.text(), proof=proof) as folder:
+    with kit.files(game=board.text(), proof=proof, layout=board.layout_text()) as folder:
+        more = ("--layout", folder / "layout") if board.layout else ()
         words = (program, folder / "game", folder / "proof", "--side", side, "--turn", turn,
-                 "--record", folder / "record")
+                 "--record", folder / "record", *more)
         env = {"PATH": os.environ["PATH"], "COLUMNS": str(table.COLUMNS)}
         done = kit.run(*words, typed=typed, clock=60, env=env)
         stored = (folder / "record").read_text() if (folder / "record").exists() else ""
-    duel = Duel(board, claim, done.output)
+    duel = Duel(board, claim, bodies_of(proof, " ".join(claim)), done.output)
     due = duel.play(typed)
     wrong = [] if done.status == 0 else [f"status {done.status}"]
     wrong += [] if done.output == due else [table.difference(done.output, due)]

@@ -191,17 +191,21 @@ def draws() -> str:
         Case(["--book", "examples/triangle-connectivity.game",
               "examples/triangle-an-edge-too-many.cert"], 4, "rejected S3 claim 0\n", ".S3."),
         Case(["--book", BOARD, "none"], 5, "", "none: "),
+        Case(["--depth", "2", BOARD, PAIRS], 2, "words: no meaning\n", "--book"),
+        Case(["--book", "--depth", "1001", BOARD, PAIRS], 2, "words: no meaning\n", "1001"),
     ):
         try_case(script, case)
     book = run(script, ["--book", BOARD, PAIRS])
     expect(book.returncode == 0 and book.stdout.startswith("<!DOCTYPE html>"), "no book")
+    book = run(script, ["--book", "--depth", "0", BOARD, PAIRS])
+    expect("Moves shown: 0." in book.stdout, f"no book of no moves: {book}")
     helped = run(script, ["--help"])
     expect(helped.returncode == 0 and "C.K" in helped.stdout, f"--help: {helped}")
     told = run(script, ["--version"]).stdout
     expect(bool(re.fullmatch(r"posgame-draw [0-9.]*\n", told)), f"--version: {told!r}")
     expect(run(DRAWS, ["--version"]).stdout == told, "the program names another version")
     expect(run(DRAWS, ["--help"]).returncode == 0, "the program has no --help")
-    return "16 runs"
+    return "19 runs"
 
 
 def settles(script: pathlib.Path, room: pathlib.Path) -> int:
@@ -320,17 +324,19 @@ def plays(script: pathlib.Path, room: pathlib.Path) -> int:
         Case([BOARD, FAULTY], 4, "rejected J6 claim 0 node 0\n", "node 0: .* .J6.\n    .4.x.pairs"),
         Case(["none"], 5, "", "none: "),
         Case([BOARD, "none"], 5, "", "none: "),
+        Case([BOARD, "--layout", slip], 12, "layout: not for this game\n", "a layout is for"),
     ]
     for case in cases:
         try_case(script, case)
     ended = run(script, [BOARD, "--record", record], input="b1\nnothing\n")
-    last = "recorded 1\n"
+    last = "\nrecorded 1\n"
     expect(ended.returncode == 0 and ended.stdout.endswith(last), f"a play: {ended}")
     expect(not ended.stderr, f"a play: {ended.stderr!r}")
     shown = run(TOP / "posgame", ["review", BOARD, record]).stdout
     expect(shown == "reviewed 1\n", f"its record: {shown!r}")
     ended = run(script, [BOARD, PAIRS], input="b1\nquit\n")
-    expect(ended.returncode == 0 and "I claim a1.\n" in ended.stdout, f"by pairs: {ended}")
+    reason = "pairs: you took b1, I take a1.\n"
+    expect(ended.returncode == 0 and reason in ended.stdout, f"by pairs: {ended}")
     ended = run(script, [BOARD, "--record", str(room / "none" / "P")])
     said = re.search("warning: .*: there is no folder", ended.stderr)
     expect(ended.returncode == 6 and said is not None, f"no folder: {ended}")

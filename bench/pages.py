@@ -10,7 +10,8 @@ book is made and opened, and then
   then each link of the list; after each click one section alone must be shown, that of the link,
   and Back must lead back;
 - the rings of a page and the links of its list must be those of the node in the certificate, which
-  this script reads itself, on cells and discs both sides must have as many points as the node
+  this script reads itself (of two trees or two cuts those of the tree of play, which
+  bench/played.py works out), on cells and discs both sides must have as many points as the node
   marks, and the page must name a page that leads to it;
 - each choice of a pair is clicked: its two marks must be seen, and "Take all back" hides them;
   one is also made and taken back by keys;
@@ -38,6 +39,7 @@ import time
 from typing import Any, Iterator, NamedTuple
 
 import kit
+import played
 import tables
 from browser import Browser
 
@@ -405,8 +407,10 @@ def main() -> int:
             path = folder / f"{book.name}.html"
             path.write_bytes(text)
             taken = measured(browser, path.as_uri(), given.times)
-            pages = pages_of((kit.EXAMPLES / book.cert).read_text())
-            has_graph = "\nkind switching\n" in (kit.EXAMPLES / book.game).read_text()
+            game = (kit.EXAMPLES / book.game).read_text()
+            cert = (kit.EXAMPLES / book.cert).read_text()
+            pages = pages_of(played.played(game, cert))
+            has_graph = "\nkind switching\n" in game
             player = Player(browser, pages, has_graph)
             visited, sheets = play(player, book)
             table.row(book.name, len(text), visited, player.clicks, player.choices, player.stops,

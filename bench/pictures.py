@@ -13,7 +13,7 @@ import xml.etree.ElementTree as ElementTree
 
 import kit
 
-ROW = re.compile(r"(.*?): ?(.*?)(?: ?!(\d))?$")
+ROW = re.compile(r"(.*?): ?(.*?)(?: ?!(\d+))?$")
 BYTES = 2_000_000
 SPACE = "{http://www.w3.org/2000/svg}"
 TAGS = {"title", "style", "rect", "circle", "line", "path", "text", "g"}

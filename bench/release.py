@@ -220,7 +220,8 @@ def manual(_: pathlib.Path) -> list[str]:
     problems += differs(
         "calls of posgame-draw.1", synopsis("posgame-draw.1"),
         ["posgame-draw [OPTIONS] GAME [CERT [NODE]]",
-         "posgame-draw [OPTIONS] GAME RECORD [--move K]", "posgame-draw --book GAME CERT"],
+         "posgame-draw [OPTIONS] GAME RECORD [--move K]",
+         "posgame-draw --book [--depth K] GAME CERT"],
     )
     called = r"^    (posgame-settle .*(?:\n {8,}\[.*)*)$"
     found = re.findall(called, text_of("docs/FORMATS.md"), re.MULTILINE)
@@ -282,7 +283,9 @@ COMPLETIONS = (
     ("posgame-draw --size ", ""),
     ("posgame-draw --size 300 tippy-c", "tippy-corner.game"),
     ("posgame-draw --no-lines wheel.game tippy-by", "tippy-by-its-corner.cert"),
+    ("posgame-draw --d", "--depth"),
     ("posgame-draw --book tippy-c", "tippy-corner.game"),
+    ("posgame-draw --book --depth 4 wheel.game tippy-by", "tippy-by-its-corner.cert"),
     ("posgame-draw --book wheel.game tippy-by", "tippy-by-its-corner.cert"),
     ("posgame-settle tippy-c", "tippy-corner.game"),
     ("posgame-settle --nodes 50 wheel.game tippy-by", "tippy-by-its-corner.cert"),
@@ -309,9 +312,12 @@ COMPLETIONS = (
     ("posgame-play --record two-c", "two-children.record"),
     ("posgame-play --record = two-c", "two-children.record"),
     ("posgame-play --record x.record tippy-c", "tippy-corner.game"),
-    ("posgame-play wheel.game --", "--help --record --side --turn --version"),
+    ("posgame-play wheel.game --",
+     "--computer --help --layout --record --side --turn --version"),
     ("posgame-play wheel.game whe", ""),
     ("posgame-play wheel.game --turn ", "x y"),
+    ("posgame-play wheel.game --computer ", "x y"),
+    ("posgame-play wheel.game --layout pla", ""),
     ("posgame-play tippy-corner.game tippy-by", "tippy-by-its-corner.cert"),
     ("posgame-play --side y tippy-corner.game tippy-by", "tippy-by-its-corner.cert"),
     ("posgame-play tippy-corner.game tippy-by-its-corner.cert whe", ""),
@@ -369,6 +375,7 @@ class Tree:
             "man",
             "docs",
             "examples",
+            "layouts",
             "README.md",
             "CHANGELOG.md",
             "CITATION.cff",

@@ -30,8 +30,12 @@ SCREENS = kit.TOP / "docs" / "screens"
 COLUMNS, ROWS, PATIENCE = 80, 44, 20.0
 # The line at which a line is typed, and how tmux shows that a red mark begins.
 PROMPT, RED = "[XO] claims( [0-9]+ points)?:", "\x1b[31m"
+# What stands for the end of the input in bench/table.txt.
+END = "Ctrl-D"
 # What a line may be at most, how many are read in a game, and how many open lines are shown.
 LONGEST, MOST_LINES, SHOWN_LINES = 64, 10_000, 12
+# How many names are in a row of an open line, and what begins a further one.
+NAMES_IN_ROW, FURTHER = 15, "\n   "
 HELP = """Type the name of a free point to claim it.
 undo     takes the last point back
 lines    shows the lines that are open, and lines P those through P
@@ -60,7 +64,8 @@ REFUSALS = {
 
 class Board(NamedTuple):
     """A board: its kind, its points, its lines or else its graph, and the columns of its grid, 0
-    where its points are no cells. X begins, and Y claims `bias` points a turn."""
+    where its points are no cells. X begins, and Y claims `bias` points a turn. A layout has the
+    column and the line of each point."""
 
     kind: str
     points: int
@@ -68,6 +73,12 @@ class Board(NamedTuple):
     width: int = 0
     bias: int = 1
     graph: Optional[kit.Graph] = None
+    layout: Optional[list[tuple[int, int]]] = None
+
+    def layout_text(self) -> str:
+        """Returns the layout file."""
+        return "".join(f"at {it} {column} {line}\n"
+                       for it, (column, line) in enumerate(self.layout or []))
 
     def text(self) -> str:
         """Returns the game file."""
@@ -193,6 +204,20 @@ class Table:
                  for first in range(0, 2 * rows + 1, per))
         return "to the right of that:\n".join(parts)
 
+    def laid_out(self, layout: list[tuple[int, int]]) -> str:
+        """Returns the points at the places of a layout, in parts as wide as the terminal."""
+        per = max(self.columns - 2, 1)
+        wide, high = (max(it[at] for it in layout) + 1 for at in (0, 1))
+        parts = []
+        for first in range(0, wide, per):
+            rows = [[" "] * (min(per, wide - first) + 2) for _ in range(high)]
+            for point, (column, line) in enumerate(layout):
+                if first <= column < first + per:
+                    free = f" {point} " if point < 10 else f"{point:>3}"
+                    rows[line][column - first:column - first + 3] = self.mark(point, free)
+            parts.append("".join(f"{''.join(row)}\n" for row in rows))
+        return "to the right of that:\n".join(parts)
+
     def entry(self, point: int) -> str:
         """Returns the entry of a point or an edge on a board without cells."""
         if not self.board.graph:
@@ -209,10 +234,18 @@ class Table:
             return "".join(self.part(it) for it in range(0, board.width, per))
         if rows := board.rows():
             return self.on_paper(rows)
+        if board.layout:
+            return self.laid_out(board.layout) + self.lines(None)
         per = max(self.columns // (16 if board.graph else 5), 1)
         rows = ("".join(self.entry(it) for it in range(first, min(first + per, board.points)))
                 for first in range(0, board.points, per))
         return "".join(f"{row}\n" for row in rows) + ("" if board.graph else self.lines(None))
+
+    def names(self, line: kit.Line) -> str:
+        """Returns the names of a line's points, in rows."""
+        names = [f" {self.board.name(it)}" for it in line]
+        rows = ("".join(names[it:it + NAMES_IN_ROW]) for it in range(0, len(names), NAMES_IN_ROW))
+        return FURTHER.join(rows) + "\n"
 
     def lines(self, through: Optional[int]) -> str:
         """Returns the text of the open lines, through a point if one is named."""
@@ -222,7 +255,7 @@ class Table:
             is_open = y.isdisjoint(line) or \
                 self.board.kind == "maker-maker" and x.isdisjoint(line)
             if is_open and (through is None or through in line):
-                shown.append("".join(f" {self.board.name(it)}" for it in line) + "\n")
+                shown.append(self.names(line))
         more = " ..\n" if len(shown) > SHOWN_LINES else ""
         return f"open lines: {len(shown)}\n" + "".join(shown[:SHOWN_LINES]) + more
 
@@ -244,15 +277,16 @@ class Table:
         return "\n" + self.board.goals() + self.picture() + ending
 
     def point(self, text: str) -> Optional[int]:
-        """Returns the number that a text names as a point, which needn't be one."""
+        """Returns the number that a text names as a point, which needn't be one: that of no point
+        for a cell that the board doesn't have."""
         if re.fullmatch("0|[1-9][0-9]{0,8}", text):
             return int(text)
-        found = re.fullmatch("([a-z]{1,2})([1-9][0-9]{0,8})", text)
+        found = re.fullmatch("([a-z]{1,2})(0|[1-9][0-9]{0,8})", text)
         if not found or not self.board.width:
             return None
         column, row = column_of(found[1]), int(found[2]) - 1
-        is_there = column < self.board.width and row < self.board.points // self.board.width
-        return row * self.board.width + column if is_there else None
+        is_there = column < self.board.width and 0 <= row < self.board.points // self.board.width
+        return row * self.board.width + column if is_there else self.board.points
 
     def claim(self, point: int) -> str:
         """Claims a point, and returns what is printed."""
@@ -307,13 +341,17 @@ class Table:
 
     def play(self, typed: bytes) -> str:
         """Returns all that is printed of a game with these lines, without its record."""
-        said = self.screen()
-        for line in cut(typed)[:MOST_LINES]:
+        said, lines = self.screen(), cut(typed)[:MOST_LINES]
+        for line in lines:
             more = self.answer(line) if self.score() is None else None
             if more is None:
-                break
+                return said
             said += more
-        return said
+        return said + self.end(len(lines))
+
+    def end(self, count: int) -> str:
+        """Returns what is printed at the end of an input with so many lines."""
+        return "\n" if self.score() is None and count < MOST_LINES else ""
 
     def record(self) -> str:
         """Returns the record of the game."""
@@ -343,6 +381,12 @@ BOARDS = {
     "a wide grid": Board("maker-maker", 60, kit.in_row(2, 30, 5), 30),
     "two points a turn": Board("maker-breaker", 12, kit.in_row(3, 4, 3), 4, 2),
     "a ring": Board("avoider-enforcer", 10, kit.scatter(5, 10, 20, 4)),
+    "a layout": Board("maker-breaker", 12, kit.scatter(7, 12, 20, 4),
+                      layout=[(7 * it % 60, 3 * it % 8) for it in range(12)]),
+    "a wide layout": Board("maker-maker", 24, kit.scatter(8, 24, 20, 5),
+                           layout=[(17 * it, 2 * (it % 5)) for it in range(24)]),
+    "long lines": Board("maker-breaker", 120, [list(range(0, 100, 2)), list(range(20, 120)),
+                                                 list(range(16))]),
     "many lines": Board("maker-maker", 14, kit.scatter(6, 14, 30, 5)),
     "Bridg-It": Board("switching", 13, [], graph=kit.bridge(3)),
     "wide Bridg-It": Board("switching", 365, [], graph=kit.bridge(14)),
@@ -384,8 +428,9 @@ def tried(program: str, board: Board, typed: bytes) -> list[str]:
     """Returns what differs in a run with this input, and in its record."""
     table = Table(board)
     due = table.play(typed) + f"recorded {len(table.moves)}\n"
-    with kit.files(game=board.text()) as folder:
-        words = program, folder / "game", "--record", folder / "record"
+    with kit.files(game=board.text(), layout=board.layout_text()) as folder:
+        more = ("--layout", folder / "layout") if board.layout else ()
+        words = program, folder / "game", "--record", folder / "record", *more
         env = {"PATH": os.environ["PATH"], "COLUMNS": str(COLUMNS)}
         done = kit.run(*words, typed=typed, clock=60, env=env)
         stored = (folder / "record").read_text() if (folder / "record").exists() else ""
@@ -467,7 +512,11 @@ class Terminal:
             time.sleep(0.02)
 
     def type(self, text: str) -> None:
-        """Types a line, and waits for the answer."""
+        """Types a line or ends the input, and waits for the answer."""
+        if text == END:
+            self.ask("send-keys", "C-d")
+            self.wait("status [0-9]+")
+            return
         self.ask("send-keys", "-l", text)
         self.wait(f".* {re.escape(text)}")
         self.ask("send-keys", "Enter")

@@ -11,6 +11,7 @@ import unittest
 import browser
 import kit
 import pages
+import played
 import tables
 from browser import Frame
 
@@ -78,6 +79,24 @@ class Expected(unittest.TestCase):
             self.assertTrue((kit.EXAMPLES / it.game).is_file(), it.game)
             self.assertTrue((kit.EXAMPLES / it.cert).is_file(), it.cert)
         self.assertEqual([it.name for it in pages.books(found[0].name)], [found[0].name])
+
+
+class Played(unittest.TestCase):
+    GAME = "posgame 1\nkind switching\nvertices 3\nterminals 0 1\nedge 0 2\nedge 2 1\nturn x\n"
+
+    def test_two_edges(self) -> None:
+        found = played.played(self.GAME, "posgame-cert 1\nclaim x y win\nnodes 1\n||x|cuts 0 / 1\n")
+        self.assertEqual(found, "posgame-cert 1\nclaim x y win\nnodes 5\n1|0|x|over\n0|1|x|over\n"
+                                "1||y|move 0 0\n0||y|move 1 1\n||x|all 0:3 1:2\n")
+
+    def test_diamond(self) -> None:
+        names = "diamond.game", "diamond-trees-and-cuts.cert"
+        found = pages.nodes_of(played.played(*((kit.EXAMPLES / it).read_text() for it in names)))
+        self.assertEqual([len(nodes) for nodes in found], [20, 17])
+
+    def test_others(self) -> None:
+        self.assertEqual(played.played(self.GAME, CERT), CERT)
+        self.assertEqual(played.played("posgame 1\nkind maker-maker\n", CERT), CERT)
 
 
 class Tables(unittest.TestCase):

@@ -9,6 +9,7 @@ import shutil
 import tempfile
 import unittest
 
+import computer
 import duel
 import kit
 import table
@@ -69,10 +70,26 @@ to the right of that:
 -o    
 """)
 
+    def test_layout(self) -> None:
+        board = table.Board("maker-breaker", 12, [[0, 1]],
+                            layout=[(4, 0), (1, 2), (8, 2), *[(13, 2 * it) for it in range(9)]])
+        game = table.Table(board, 14)
+        game.claim(1)
+        self.assertEqual(game.picture().splitlines()[:4], [
+            "     0        ", " " * 14, " [X]     2    ", " " * 14])
+        self.assertEqual(game.picture().splitlines()[17:22], [
+            "to the right of that:", "  3 ", "    ", "  4 ", "    "])
+        self.assertEqual(board.layout_text()[:18], "at 0 4 0\nat 1 1 2\n")
+
+    def test_long_lines(self) -> None:
+        game = table.Table(table.Board("maker-breaker", 40, [list(range(31))]))
+        self.assertEqual(game.lines(None), "open lines: 1\n 0 1 2 3 4 5 6 7 8 9 10 11 12 13 14\n"
+                         "    15 16 17 18 19 20 21 22 23 24 25 26 27 28 29\n    30\n")
+
     def test_names(self) -> None:
         game = table.Table(table.BOARDS["a wide grid"])
         found = [game.point(it) for it in ("ad2", "ae1", "a3", "a0", "59", "b01", "lines")]
-        self.assertEqual(found, [59, None, None, None, 59, None, None])
+        self.assertEqual(found, [59, 60, 60, 60, 59, None, None])
 
     def test_turns(self) -> None:
         game = table.Table(table.BOARDS["two points a turn"])
@@ -97,7 +114,9 @@ to the right of that:
         game.claim(4)
         game.claim(0)
         self.assertEqual(game.answer(b"lines b1"), "open lines: 1\n b1 b2 b3\n" + TURN)
-        self.assertEqual(game.answer(b"lines d1"), table.REFUSALS["unclear"] + TURN)
+        self.assertEqual(game.answer(b"lines d1"), table.REFUSALS["none"] + TURN)
+        self.assertEqual(game.answer(b"e5"), table.REFUSALS["none"] + TURN)
+        self.assertEqual(game.answer(b"lines e"), table.REFUSALS["unclear"] + TURN)
         self.assertEqual(game.answer(b"lines 9"), table.REFUSALS["none"] + TURN)
 
     def test_answers(self) -> None:
@@ -110,6 +129,11 @@ to the right of that:
         self.assertEqual(game.answer(b"4"), table.REFUSALS["taken"] + "O claims: ")
         game.answer(b"undo")
         self.assertEqual(game.record(), "posgame-record 1\nmove 4\nback\n")
+
+    def test_end_of_input(self) -> None:
+        said = table.Table(GRID).play(b"b1")
+        self.assertTrue(said.endswith("O claims: \n"))
+        self.assertEqual(table.Table(GRID).play(b"b1\nquit") + "\n", said)
 
     def test_most(self) -> None:
         said = table.Table(GRID).play(b"?\n" * (table.MOST_LINES + 5))
@@ -152,8 +176,9 @@ class Lines(unittest.TestCase):
 class Screens(unittest.TestCase):
     def test_rows(self) -> None:
         rows = table.plays()
-        against = [f"against-{it}" for it in ("pairs", "cuts", "a-potential", "moves")]
-        self.assertEqual([it.name for it in rows], ["grid", "bridg-it", "ring", "undo", *against])
+        against = [f"against-{it}" for it in ("pairs", "cuts", "a-potential", "moves", "a-search")]
+        names = ["grid", "bridg-it", "ring", "plane", "undo", "left", *against]
+        self.assertEqual([it.name for it in rows], names)
         for row in rows:
             self.assertTrue((kit.EXAMPLES / row.words[0]).exists())
             self.assertTrue((table.SCREENS / f"{row.name}.txt").exists())
@@ -172,11 +197,13 @@ class Screens(unittest.TestCase):
 
 PAIR = table.Board("maker-breaker", 3, [[0, 1], [0, 2]])
 PROMISE = "I play X and win, whatever you claim.\n"
+BODIES = [["over"], ["move", "2", "0"], ["move", "1", "0"], ["all", "1:1", "2:2"],
+          ["move", "0", "3"]]
 
 
 class Duels(unittest.TestCase):
     def played(self, output: str, *lines: str) -> duel.Duel:
-        found = duel.Duel(PAIR, ["x", "x", "win"], output)
+        found = duel.Duel(PAIR, ["x", "x", "win"], BODIES, output)
         found.play("".join(f"{it}\n" for it in lines).encode())
         return found
 
@@ -185,8 +212,8 @@ class Duels(unittest.TestCase):
         board.claim(0)
         for point in (0, 1, 2):
             more.claim(point)
-        output = ("I claim 0.\n" + PROMISE + board.screen() + "I claim 2.\n" + PROMISE
-                  + more.screen())
+        output = ("the proof: I take 0.\n" + PROMISE + board.screen()
+                  + "the proof: you took 1, I take 2.\n" + PROMISE + more.screen())
         found = self.played(output, "1")
         self.assertEqual(found.due, output)
         self.assertEqual(found.record(), "posgame-record 1\nmove 0\nmove 1\nmove 2\n")
@@ -195,11 +222,60 @@ class Duels(unittest.TestCase):
     def test_undo(self) -> None:
         board = table.Table(PAIR)
         board.claim(0)
-        first = "I claim 0.\n" + PROMISE + board.screen()
+        first = "the proof: I take 0.\n" + PROMISE + board.screen()
         found = self.played(first, "undo", "?", "quit")
         self.assertEqual(found.due, first + table.REFUSALS["nothing"] + board.turn()
-                         + board.asked("?"))
+                         + PAIR.goals() + table.HELP + duel.MEANINGS + board.turn())
+
+    def test_end_of_input(self) -> None:
+        board = table.Table(PAIR)
+        board.claim(0)
+        first = "the proof: I take 0.\n" + PROMISE + board.screen()
+        self.assertEqual(self.played(first).due, first + "\n")
+
+    def test_rules(self) -> None:
+        found = self.played("pairs: I take 0.\n")
+        self.assertTrue(found.due.startswith("the proof: I take 0.\n"))
 
     def test_other_points(self) -> None:
-        self.assertEqual(self.played("I claim 7.\n").table.moves, [])
-        self.assertFalse(duel.Duel(PAIR, ["x", "y", "win"], "").owes())
+        self.assertEqual(self.played("the proof: I take 7.\n").table.moves, [])
+        self.assertFalse(duel.Duel(PAIR, ["x", "y", "win"], BODIES, "").owes())
+
+
+class Computers(unittest.TestCase):
+    def played(self, output: str, *lines: str, board: table.Board = PAIR) -> computer.Versus:
+        found = computer.Versus(board, "x", "x", output, computer.values_of(board))
+        found.play("".join(f"{it}\n" for it in lines).encode())
+        return found
+
+    def test_whole(self) -> None:
+        board, more = table.Table(PAIR), table.Table(PAIR)
+        board.claim(0)
+        for point in (0, 1, 2):
+            more.claim(point)
+        output = ("I take 0: proved to keep the value.\n" + board.screen()
+                  + "I take 2: not proved.\n" + more.screen())
+        found = self.played(output, "1")
+        self.assertEqual(found.due, output)
+        self.assertEqual(found.wrong, [])
+        self.assertEqual(found.record(), "posgame-record 1\nmove 0\nmove 1\nmove 2\n")
+
+    def test_untrue(self) -> None:
+        found = self.played("I take 1: proved to keep the value.\n")
+        self.assertEqual(found.wrong, ["after [] the point 1 doesn't keep the value"])
+
+    def test_illegal(self) -> None:
+        for output in ("I take 7: not proved.\n", "I take 0: proved.\n", "X claims: "):
+            self.assertEqual(self.played(output).wrong, ["after [] no legal point"])
+
+    def test_undo(self) -> None:
+        board = table.Table(PAIR)
+        board.claim(1)
+        first = "I take 1: not proved.\n" + board.screen()
+        found = self.played(first, "undo", "quit")
+        self.assertEqual(found.due, first + table.REFUSALS["nothing"] + board.turn())
+
+    def test_graph(self) -> None:
+        triangle = table.Board("switching", 3, [], graph=(3, [(0, 1), (0, 2), (1, 2)]))
+        found = self.played("I take 1: not proved.\n", board=triangle)
+        self.assertEqual(found.wrong, ["after [] the point 1 isn't proved"])

@@ -55,6 +55,17 @@ class Heap(unittest.TestCase):
 
 
 @unittest.skipUnless(shutil.which("gcc"), "there is no gcc")
+class Callers(unittest.TestCase):
+    """What calls the library, as far as the library isn't needed."""
+
+    def test_without_warnings(self) -> None:
+        with tempfile.TemporaryDirectory() as room:
+            for source in "example.c", "tests/answer.c":
+                with self.subTest(source=source):
+                    compiled(pathlib.Path(room) / "object", "-O2", "-c", source)
+
+
+@unittest.skipUnless(shutil.which("gcc"), "there is no gcc")
 class Example(unittest.TestCase):
     """The example in C, compared with the program."""
 

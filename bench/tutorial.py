@@ -4,8 +4,8 @@
     bench/tutorial.py [PROGRAM] [--draw PROGRAM] [--settle PROGRAM] [--play PROGRAM]
                       [--lesson NUMBER]..
 
-Each lesson runs in a folder of its own, which contains nothing but a link to examples/. Of the
-indented blocks of a lesson:
+Each lesson runs in a folder of its own, which contains nothing but links to examples/ and
+layouts/. Of the indented blocks of a lesson:
 
 - a block after "save it as `NAME`:" is written to the file NAME;
 - a block after "`NAME`:" must be the file NAME without its comments, if it is a game, a
@@ -180,6 +180,7 @@ def main() -> int:
         with kit.files() as folder:
             walks.append(Walk(programs, given.draw, folder))
             (folder / "examples").symlink_to(kit.EXAMPLES)
+            (folder / "layouts").symlink_to(kit.TOP / "layouts")
             for block in BLOCK.findall(path.read_text(encoding="utf-8")):
                 walks[-1].try_block(*block)
     shown, not_drawn = sum(it.shown for it in walks), sum(it.not_drawn for it in walks)

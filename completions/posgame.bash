@@ -61,7 +61,7 @@ _posgame_read() {
     local at word
     for ((at = 1; at < COMP_CWORD; at++)); do
         word=${COMP_WORDS[at]}
-        if [[ $word == --@(side|turn|positions|entries|nodes|most|record) ]]; then
+        if [[ $word == --@(side|computer|turn|positions|entries|nodes|most|record|layout) ]]; then
             [ "${COMP_WORDS[at + 1]}" = = ] && at=$((at + 1))
             at=$((at + 1))
             ((at < COMP_CWORD)) || pending=$word
@@ -161,19 +161,21 @@ _posgame_join() {
 
 _posgame_draw() {
     local current=${COMP_WORDS[COMP_CWORD]} place=0 at=1
+    local options='--book --depth --no-numbers --no-lines --no-legend --size --blank --move'
+    options+=' --layout'
     COMPREPLY=()
     while ((at < COMP_CWORD)); do
         case ${COMP_WORDS[at]} in
-            --size | --blank | --move) ((at += 1)) ;;
+            --size | --blank | --move | --depth | --layout) ((at += 1)) ;;
             -*) ;;
             *) ((place += 1)) ;;
         esac
         ((at += 1))
     done
     if ((at > COMP_CWORD)); then
-        :
+        [[ ${COMP_WORDS[COMP_CWORD - 1]} == --layout ]] && _posgame_files layout "$current"
     elif [[ $current == -* ]]; then
-        _posgame_words '--book --no-numbers --no-lines --no-legend --size --blank --move' "$current"
+        _posgame_words "$options" "$current"
     elif ((place == 0)); then
         _posgame_files game "$current"
     elif ((place == 1)); then
@@ -187,12 +189,12 @@ _posgame_play() {
     COMPREPLY=()
     [ "$current" = = ] && current=''
     _posgame_read
-    if [[ $pending == --record ]]; then
-        _posgame_files record "$current"
+    if [[ $pending == --record || $pending == --layout ]]; then
+        _posgame_files "${pending#--}" "$current"
     elif [ -n "$pending" ]; then
         _posgame_words 'x y' "$current"
     elif [[ $current == -* ]]; then
-        _posgame_words '--record --side --turn --help --version' "$current"
+        _posgame_words '--computer --layout --record --side --turn --help --version' "$current"
     elif ((place == 0)); then
         _posgame_files game "$current"
     elif ((place == 1)); then

@@ -11,13 +11,13 @@
 # seconds of a processor. Then it says what the status tells.
 # shellcheck shell=bash disable=SC2034,SC2153 # run.bash shares its variables
 
-# Sets `POSITIONALS`, `SIDE`, `RECORD` and `OPTIONS` (a row of the options' names) by the words from
-# the third on; the first has the options with a value, the second those without, with blanks around
-# each. Fails where a word has no meaning wherever it stands.
+# Sets `POSITIONALS`, `SIDE`, `RECORD`, `LAYOUT` and `OPTIONS` (a row of the options' names) by the
+# words from the third on; the first has the options with a value, the second those without, with
+# blanks around each. Fails where a word has no meaning wherever it stands.
 split_words() {
     local valued=$1 flags=$2 name
     shift 2
-    POSITIONALS=() SIDE='' RECORD='' OPTIONS=''
+    POSITIONALS=() SIDE='' RECORD='' LAYOUT='' OPTIONS=''
     while (($#)); do
         name=${1%%=*}
         case $1 in
@@ -32,6 +32,7 @@ split_words() {
                 fi
                 [[ $name == --side ]] && SIDE=${1#*=}
                 [[ $name == --record ]] && RECORD=${1#*=}
+                [[ $name == --layout ]] && LAYOUT=${1#*=}
                 ;;
             -?*) return 1 ;;
             *) POSITIONALS+=("$1") ;;
@@ -41,15 +42,16 @@ split_words() {
 }
 
 # Sets what `read_words` sets, for posgame-draw, whose words are names, perhaps a node, and options;
-# or two names with --book.
+# or two names with --book, and an option.
 read_draw_words() {
     COMMAND='' FAMILY='' GAME='' FOLDER='' OTHER=''
     if [[ " $* " == *' --book '* ]]; then
-        split_words '' ' --book ' "$@" || return 0
+        split_words ' --depth ' ' --book ' "$@" || return 0
         ((${#POSITIONALS[@]} == 2)) && COMMAND=book GAME=${POSITIONALS[0]} OTHER=${POSITIONALS[1]}
         return 0
     fi
-    split_words ' --size --blank --move ' ' --no-numbers --no-lines --no-legend ' "$@" || return 0
+    split_words ' --size --blank --move --layout ' ' --no-numbers --no-lines --no-legend ' "$@" ||
+        return 0
     ((${#POSITIONALS[@]} >= 1 && ${#POSITIONALS[@]} <= 3)) || return 0
     COMMAND=draw GAME=${POSITIONALS[0]} OTHER=${POSITIONALS[1]-}
     local number='(0|[1-9][0-9]{0,8})' node=${POSITIONALS[2]-0}
@@ -84,7 +86,7 @@ read_settle_words() {
 # Sets what `read_words` sets, for posgame-play, whose words are one or two names and options.
 read_play_words() {
     COMMAND='' FAMILY='' GAME='' FOLDER='' OTHER=''
-    split_words ' --record --side --turn ' '' "$@" || return 0
+    split_words ' --computer --layout --record --side --turn ' '' "$@" || return 0
     case ${#POSITIONALS[@]} in
         1) COMMAND=table GAME=${POSITIONALS[0]} OTHER=$RECORD ;;
         2) COMMAND=duel GAME=${POSITIONALS[0]} OTHER=${POSITIONALS[1]} ;;
@@ -339,13 +341,15 @@ is_rereadable() {
 ask_again() {
     local words status=$STATUS file=$OTHER
     [[ $FOLDER ]] && file=$FOLDER/plan
+    ((STATUS == 12)) && file=$LAYOUT
     FOUND=
     count_ticks
     is_rereadable "$GAME" && ((TICKS - BUILDING_TICKS <= 200)) || return
     [[ $STATUS == 3 ]] || is_rereadable "$file" || return
     case $COMMAND:$STATUS in
         draw:3 | book:3 | table:3 | duel:3) words=("$GAME") ;;
-        draw:4 | draw:10 | book:4 | duel:4) words=("$@") ;;
+        draw:4 | draw:10 | draw:12 | book:4 | duel:4) words=("$@") ;;
+        table:12 | duel:12) words=("$@") ;;
         moves:3) words=(moves --positions 1 -- "$GAME") ;;
         settle:3 | split:3 | join:3) words=(--positions 1 -- "$GAME" /dev/null) ;;
         split:4 | join:4) words=(join -- "$GAME" "$FOLDER" /dev/null) ;;
@@ -373,14 +377,15 @@ say_fault() {
     show_line "$1" "$4"
 }
 
-# Statuses 3, 4 and 10: which file has a fault, where, and what its code means.
+# Statuses 3, 4, 10 and 12: which file has a fault, where, and what its code means.
 explain_fault() {
     local file=$OTHER place line=0
-    local in_file='(game|certificate|record|plan) ([GCFP][0-9]+) line ([0-9]+)'
+    local in_file='(game|certificate|record|plan|layout) ([GCFPL][0-9]+) line ([0-9]+)'
     local in_claim='rejected ([JISV][0-9]+) claim ([0-9]+)( node ([0-9]+))?'
     local drawn='<title>(Position ([0-9]+): rejected|Claim rejected:) ([JS][0-9]+)</title>'
     [[ $FOLDER ]] && file=$FOLDER/plan
     ((STATUS == 3)) && file=$GAME
+    ((STATUS == 12)) && file=$LAYOUT
     if ! ask_again "$@"; then
         if [[ $COMMAND:$STATUS == split:4 ]]; then
             say "${GAME@Q} can't be split so: a switching game has no plan (\`posgame solve\`" \
@@ -393,6 +398,8 @@ explain_fault() {
         place=", line $line"
         ((line)) || place=
         say_fault "$file" "$place" "${BASH_REMATCH[2]}" "$line"
+    elif [[ $FOUND == 'layout: not for this game' ]]; then
+        say "${GAME@Q} has a grid or edges, so its points have places; a layout is for other games"
     elif [[ $FOUND =~ $in_claim ]]; then
         place=", claim ${BASH_REMATCH[2]}${BASH_REMATCH[4]:+, node ${BASH_REMATCH[4]}}"
         [[ ${BASH_REMATCH[2]} == 0 && ${BASH_REMATCH[4]} ]] && line=$((BASH_REMATCH[4] + 4))
@@ -437,7 +444,7 @@ explain() {
     case $STATUS in
         1) explain_open ;;
         2) explain_words "$@" ;;
-        3 | 4 | 10) explain_fault "$@" ;;
+        3 | 4 | 10 | 12) explain_fault "$@" ;;
         5) explain_reading "$@" ;;
         6) explain_writing ;;
         7) say 'out of memory' ;;

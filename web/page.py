@@ -49,7 +49,7 @@ def policy(script: str) -> str:
     return "; ".join((
         "default-src 'none'", f"script-src 'sha256-{digest}' 'wasm-unsafe-eval'",
         "worker-src blob:", "style-src 'unsafe-inline'", "img-src data:", "form-action 'none'",
-        "base-uri 'none'"))
+        "base-uri about:"))
 
 
 def page(module: bytes) -> str:

@@ -15,6 +15,8 @@ import { aimOf, claimsIn, nameOf, pointName, resultIn, reviewIn, setName, textsI
 const LISTED = 60, CELLS = 256;
 /** @type {Record<string, 'x' | 'y' | ''>} What a press makes of a mark. */
 const NEXT = { '': 'x', x: 'y', y: '' };
+/** The fields of the form. */
+const FIELDS = /** @type {const} */ (['kind', 'field', 'width', 'height', 'bias', 'turn']);
 
 /** @type {(id: string) => any} Returns an element of the page. */
 const $ = id => document.getElementById(id);
@@ -41,10 +43,10 @@ const say = (id, ...said) => $(id).replaceChildren(...said.map(it => make('p', {
  * @param {string} input @param {number[]} accepted the statuses that are no failure */
 async function run(words, place, files = {}, input = '', accepted = [0]) {
   const since = Date.now();
-  /** @type {import('./form.js').Files} */
-  const all = { G: bytesOf(gameText(game)), ...files };
+  const all = /** @type {import('./form.js').Files} */ ({ G: bytesOf(gameText(game)), ...files });
   const timer = setInterval(() => {
-    $('busy').textContent = `Running for ${Math.round((Date.now() - since) / 1000)} s`;
+    $('running').textContent ||= 'Running';
+    $('seconds').textContent = ` for ${Math.round((Date.now() - since) / 1000)} s`;
   }, 500);
   $('stop').disabled = false;
   try {
@@ -57,8 +59,8 @@ async function run(words, place, files = {}, input = '', accepted = [0]) {
     say(place, fault instanceof Stopped ? texts.get('stopped') : String(fault));
   } finally {
     clearInterval(timer);
-    $('busy').textContent = '';
-    $('stop').disabled = true;
+    $('running').textContent = $('seconds').textContent = '';
+    $('stop').disabled = runner.isIdle();
   }
   return null;
 }
@@ -73,16 +75,18 @@ function save(name, content, type = 'text/plain') {
 /** Shows the game, its sizes and its winning sets. */
 function show() {
   document.body.dataset.field = game.field;
-  for (const name of /** @type {const} */ (['kind', 'field', 'width', 'height', 'bias', 'turn'])) {
-    $(name).value = game[name];
-  }
+  FIELDS.forEach(it => { $(it).value = game[it]; });
   $('bias').disabled = game.kind === 'maker-maker';
   $('aim').textContent = aimOf(game, texts);
   $('text').value = gameText(game);
+  $('tools').querySelector(':checked').offsetParent || $('tools').elements[0].click();
   showBoard(game, { chosen, hasVertices: true });
   $('sets').replaceChildren(...game.sets.slice(0, LISTED).map((set, at) => {
     const remove = make('button', { 'aria-label': `Remove: ${setName(game, set)}` }, '×');
-    remove.onclick = () => change({ sets: game.sets.filter((_, it) => it !== at) });
+    remove.onclick = () => {
+      change({ sets: game.sets.filter((_, it) => it !== at) });
+      ($('sets').querySelectorAll('button')[at] ?? $('no-marks')).focus();
+    };
     return make('li', {}, `${setName(game, set)} `, remove);
   }), ...game.sets.length > LISTED ? [`and ${game.sets.length - LISTED} more`] : []);
 }
@@ -119,8 +123,7 @@ function pressGraph(tool, { point, vertex, place }) {
 
 /** @type {(pressed: Pressed) => void} Presses a part of the board. */
 function press(pressed) {
-  const picked = /** @type {any} */ (document.querySelector('[name=tool]:checked'));
-  const tool = picked.offsetParent ? picked.value : 'mark';
+  const tool = $('tools').querySelector(':checked').value;
   const { point = -1 } = pressed;
   if (tool === 'mark' && point >= 0) {
     change({ marks: Object.assign([...game.marks], { [point]: NEXT[game.marks[point] ?? ''] }) });
@@ -134,9 +137,8 @@ function press(pressed) {
 
 /** @param {Uint8Array} bytes a game file, which is taken if it has no fault */
 async function take(bytes) {
-  if (await run('posgame check G C', 'hint', { G: bytes, C: bytesOf('') }, '', [4])) {
-    change({ ...newGame(), ...readGame(textOf(bytes)) });
-  }
+  const answer = await run('posgame check G C', 'hint', { G: bytes, C: bytesOf('') }, '', [4]);
+  return answer && change(readGame(textOf(bytes)));
 }
 
 /** @param {string} name a field of the form, by which the game is changed */
@@ -169,6 +171,7 @@ async function accept(certificate, ...first) {
       make('option', { value: it }, nameOf(game.kind, it))));
     $('proof').hidden = $('save-certificate').disabled = false;
     $('no-proof').hidden = $('book').hidden = true;
+    say('book-said');
     await (sides.length ? goOn([]) : say('play-said', texts.get('no-claim')));
   }
 }
@@ -177,9 +180,7 @@ async function accept(certificate, ...first) {
 async function decide(words) {
   say('result');
   const answer = await run(words, 'result');
-  if (answer) {
-    await accept(answer.files.get('C') ?? proof, resultIn(game, saidIn(answer), texts));
-  }
+  return answer && accept(answer.files.get('C') ?? proof, resultIn(game, saidIn(answer), texts));
 }
 
 /** @param {number[]} replies with which the proof is played */
@@ -215,13 +216,16 @@ async function review(place, F) {
 }
 
 /** @param {string} words what is drawn @param {string} place where it is said why it can't be
- * @param {(drawn: string) => void} then gets it */
+ * @param {(drawn: string) => any} then gets it, and returns what is said then */
 async function draw(words, place, then) {
-  say(place);
   const answer = await run(`posgame-draw ${words}`, place, { C: proof });
-  if (answer) {
-    then(saidIn(answer));
-  }
+  return answer && say(place, then(saidIn(answer)));
+}
+
+/** @type {(id: string, how: object) => any} Shows the book or the picture, and says where. */
+function unveil(id, how) {
+  Object.assign($(id), how, { hidden: false });
+  return texts.get(id);
 }
 
 /** @param {File | undefined} file which is opened by what it begins with */
@@ -256,18 +260,16 @@ const ACTIONS = {
   begin: () => goOn([]),
   undo: () => goOn(play.replies.slice(0, -1)),
   review: () => record(it => review('play-said', it)),
-  'show-book': () => draw('--book G C', 'book-said', html => Object.assign($('book'),
-    { srcdoc: html, hidden: false })),
+  'show-book': () => draw('--book G C', 'book-said', html => unveil('book', {
+    srcdoc: html.replace('<style>', '<base href="about:srcdoc">$&') })),
   'save-book': () => draw('--book G C', 'book-said', it => save('posgame.html', it, 'text/html')),
-  'show-picture': () => draw(drawn(), 'picture-said', it => Object.assign($('picture'),
-    { src: `data:image/svg+xml,${encodeURIComponent(it)}`, hidden: false })),
+  'show-picture': () => draw(drawn(), 'picture-said', it => unveil('picture', {
+    src: `data:image/svg+xml,${encodeURIComponent(it)}`, alt: texts.get(drawn()) })),
   'save-picture': () => draw(drawn(), 'picture-said', it =>
     save('posgame.svg', it, 'image/svg+xml')),
 };
 Object.entries(ACTIONS).forEach(([id, act]) => { $(id).onclick = act; });
-['kind', 'field', 'width', 'height', 'bias', 'turn'].forEach(it => {
-  $(it).onchange = () => changeBy(it);
-});
+FIELDS.forEach(it => { $(it).onchange = () => changeBy(it); });
 $('example').append(...[...games.keys()].map(it => make('option', {}, it)));
 $('example').onchange = () =>
   take(bytesOf((games.get($('example').value) ?? '').replaceAll(';', '\n')));

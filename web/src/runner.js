@@ -4,7 +4,7 @@
 export class Stopped extends Error {}
 
 /** @param {string} source the worker's script @param {string} packed the module
- * @returns a runner of requests, and how all that run are stopped */
+ * @returns a runner of requests, how all that run are stopped, and whether none runs */
 export function runnerOf(source, packed) {
   const address = URL.createObjectURL(new Blob([source], { type: 'text/javascript' }));
   const ends = new Set();
@@ -34,5 +34,5 @@ export function runnerOf(source, packed) {
       ends.clear();
     }
   };
-  return { run, stop };
+  return { run, stop, isIdle: () => !ends.size };
 }

@@ -1,32 +1,39 @@
 #!/usr/bin/env python3
 """Uses the page in Chromium as people do, and says what isn't as it should be.
 
-    web/tests/browser_page.py [PROGRAM] [--page PAGE] [--draw PROGRAM] [--only NAME]
-                              [--photographs FOLDER]
+    web/tests/browser_page.py [PROGRAM] [--page PAGE] [--draw PROGRAM] [--settle PROGRAM]
+                              [--native] [--only NAME] [--photographs FOLDER]
 
 PROGRAM is posgame, and PAGE the built page, by default web/dist/posgame.html. Each function of the
 page is used by the mouse, by keys, and by files that are opened and dropped. What is saved must be
-what the native programs write, to the byte. With --photographs pictures of the page are stored.
+what the native programs write, to the byte. With --native the page is made without the module, and
+the native programs stand in for it: that tries the page's own script alone. With --photographs
+pictures of the page are stored.
 
 Needs chromium (Debian: apt-get install chromium), so the gate doesn't run it. Unproved.
 """
 from __future__ import annotations
 
+import contextlib
 import json
 import pathlib
 import re
 import sys
 import tempfile
 import time
-from typing import Any, Callable
+from typing import Any, Callable, Iterator
 
 TOP = pathlib.Path(__file__).resolve().parents[2]
-sys.path.insert(0, str(TOP / "bench"))
+sys.path += [str(TOP / "bench"), str(TOP / "web")]
 
 import kit  # noqa: E402
+import page as making  # noqa: E402
 from browser import Browser  # noqa: E402
+from stand_in import StandIn  # noqa: E402
 
 PATIENCE, PHONE = 60.0, 360
+# The shortest module of WebAssembly.
+EMPTY = b"\0asm\1\0\0\0"
 TIPPY = "posgame 1\nkind maker-breaker\ngrid 5 5\nshape 110/011\nturn x\n"
 HARD = "posgame 1\nkind maker-breaker\ngrid 9 9\nshape 11110/00011\nturn x\n"
 PAIRS = kit.EXAMPLES / "noughts-and-crosses.game", kit.EXAMPLES / "breaker-in-the-centre.cert"
@@ -38,6 +45,49 @@ MIDDLE = """(() => {
 })()"""
 IDLE = "document.getElementById('stop').disabled"
 NAMELESS = ("button", "textbox", "combobox", "spinbutton", "radio", "link")
+LANDMARKS = ("banner", "main", "region", "contentinfo")
+# The middle of the first link of a position of the book to another, in its frame.
+LINK = """(it => {
+  it.scrollIntoView({block: 'center'});
+  const box = it.getBoundingClientRect();
+  return [box.x + box.width / 2, box.y + box.height / 2];
+})([...document.querySelectorAll('section :is(ul, ol, p:not(.leave, .from)) a')]
+  .find(it => it.getBoundingClientRect().width))"""
+# What can be reached by Tab, and where the focus is among it.
+USABLE = """window.usable = [...document.querySelectorAll(
+  'button, select, input, textarea, summary, iframe, [tabindex]')].filter(it => !it.disabled &&
+  it.tabIndex >= 0 && it.getClientRects().length && (it.type !== 'radio' || it.checked)); 0"""
+FOCUS = "usable.indexOf(document.activeElement)"
+# Counts what is said by the live region of runs.
+HEARD = """window.heard = 0; new MutationObserver(all => {
+  heard += all.filter(it => it.addedNodes.length).length;
+}).observe(document.getElementById('running'), {childList: true}); 0"""
+# Texts whose contrast to what is behind them is below 4.5 (WCAG 2.2, 1.4.3).
+FAINT = """(() => {
+  const brush = new OffscreenCanvas(1, 1).getContext('2d');
+  const brightness = color => {
+    brush.fillStyle = color;
+    brush.fillRect(0, 0, 1, 1);
+    const [red, green, blue] = [...brush.getImageData(0, 0, 1, 1).data].map(it => it / 255)
+      .map(it => it <= 0.04045 ? it / 12.92 : ((it + 0.055) / 1.055) ** 2.4);
+    return 0.2126 * red + 0.7152 * green + 0.0722 * blue + 0.05;
+  };
+  const behind = it => {
+    const color = getComputedStyle(it).backgroundColor;
+    return color === 'rgba(0, 0, 0, 0)' ? behind(it.parentElement) : color;
+  };
+  return [...document.body.querySelectorAll('*')].filter(it => it.getClientRects().length
+    && !it.closest('svg, :disabled, .unseen') && [...it.childNodes].some(it => it.nodeType === 3
+    && it.data.trim())).map(it => [it.textContent.trim().slice(0, 40),
+      brightness(getComputedStyle(it).color) / brightness(behind(it))])
+    .map(([text, ratio]) => [text, Math.max(ratio, 1 / ratio)])
+    .filter(([, ratio]) => ratio < 4.5);
+})()"""
+# What is smaller than a finger needs (WCAG 2.2, 2.5.8).
+SMALL = """[...document.querySelectorAll('button, select, input, summary')].filter(it =>
+  it.getClientRects().length).map(it => [it.id || it.textContent || it.value,
+    (it.type === 'radio' ? it.parentElement : it).getBoundingClientRect()]).filter(([, box]) =>
+  box.width < 24 || box.height < 24).map(([name]) => name)"""
 
 
 class Page:
@@ -239,8 +289,10 @@ def stops(page: Page, _: str, __: str) -> None:
     page.says("settled", "result", "The proof was checked in this page")
     page.use(HARD)
     page.set("positions", 100_000_000)
+    page.js(HEARD)
     page.click("#settle")
-    page.until("/Running for [1-9]/.test(document.getElementById('busy').textContent)")
+    page.until("/Running for [2-9]/.test(document.getElementById('busy').textContent)")
+    page.expect("said once", page.js("heard"), 1)
     page.expect("can be stopped", page.js(IDLE), False)
     page.press("stop")
     page.says("stopped", "result", "Stopped: nothing is decided")
@@ -309,6 +361,7 @@ def shows(page: Page, _: str, draw: str) -> None:
     page.use(TIPPY)
     page.press("show-picture")
     page.expect("a board", page.js("document.getElementById('picture').naturalWidth > 100"), True)
+    page.expect("its name", page.js("document.getElementById('picture').alt"), "The board, drawn")
     page.press("solve")
     certificate = page.save("save-certificate", "posgame.cert").decode()
     with kit.files(game=TIPPY, certificate=certificate) as folder:
@@ -317,10 +370,11 @@ def shows(page: Page, _: str, draw: str) -> None:
 
 
 def shows_books(page: Page, _: str, draw: str) -> None:
-    """A book is shown, and saved as natively; its links lead on. It has not passed yet."""
+    """A book is shown, and saved as natively; its links lead on."""
     page.use(TIPPY)
     page.press("solve")
     page.press("show-book")
+    page.says("where it is", "book-said", "The book is below")
     page.expect("closed to scripts", page.js("document.getElementById('book').sandbox.value"), "")
     certificate = page.save("save-certificate", "posgame.cert").decode()
     with kit.files(game=TIPPY, certificate=certificate) as folder:
@@ -328,36 +382,50 @@ def shows_books(page: Page, _: str, draw: str) -> None:
     page.expect("book", page.save("save-book", "posgame.html").decode(), native)
     page.js("document.getElementById('book').scrollIntoView({block: 'center'})")
     time.sleep(0.5)
+    page.js("document.getElementById('save-book').focus()")
+    page.browser.press("Tab")
+    time.sleep(0.5)
+    page.expect("Tab leads into it", page.js("document.activeElement.id"), "book")
     page.expect("pages of the book", follow_link(page), ["p1", "p2"])
+
+
+@contextlib.contextmanager
+def in_book(page: Page) -> Iterator[None]:
+    """Has the page's calls go to the frame of the book, which is a process of its own."""
+    call, outer, frames = page.browser.call, page.browser.session, []
+    ends = time.monotonic() + PATIENCE
+    while not frames and time.monotonic() < ends:
+        page.browser.forget()
+        for is_on in False, True:
+            call("Target.setAutoAttach", autoAttach=is_on, waitForDebuggerOnStart=False,
+                 flatten=True)
+        page.browser.settle()
+        frames = [it["params"]["sessionId"] for it in page.browser.events
+                  if it.get("method") == "Target.attachedToTarget"
+                  and it["params"]["targetInfo"]["type"] == "iframe"]
+    page.browser.session = frames[-1] if frames else outer
+    try:
+        yield
+    finally:
+        page.browser.session = outer
 
 
 def follow_link(page: Page) -> list[str]:
     """Clicks the first link of the book, and returns which pages were shown before and after."""
-    call, shown = page.browser.call, (
-        "[...document.querySelectorAll('section')].filter(it => getComputedStyle(it).display !=="
-        " 'none')[0].id")
-    links = "[...document.querySelectorAll('ul a, ol a, p:not(.leave, .from) a')]"
-    link = "(it => { it.scrollIntoView({block: 'center'});" \
-        " const box = it.getBoundingClientRect();" \
-        " return [box.x + box.width / 2, box.y + box.height / 2]; })" \
-        f"({links}.find(it => it.getBoundingClientRect().width))"
-    page.browser.forget()
-    call("Target.setAutoAttach", autoAttach=True, waitForDebuggerOnStart=False, flatten=True)
-    inner = [it["params"]["sessionId"] for it in page.browser.events
-             if it.get("method") == "Target.attachedToTarget"
-             and it["params"]["targetInfo"]["type"] == "iframe"]
-    left, top = page.js("(it => [it.x + it.clientLeft, it.y + it.clientTop])"
-                        "(document.getElementById('book').getBoundingClientRect())")
-    outer, page.browser.session = page.browser.session, (inner or [page.browser.session])[0]
-    before = page.js(shown)
-    across, down = page.js(link)
-    page.browser.session = outer
+    shown = "[...document.querySelectorAll('section')].filter(it =>" \
+        " getComputedStyle(it).display !== 'none').map(it => it.id)[0]"
+    with in_book(page):
+        page.until(shown)
+        before = page.js(shown)
+        across, down = page.js(LINK)
+    # What scrolls in the frame may move the page around it, somewhat later.
+    time.sleep(1)
+    left, top = page.js("(it => (box => [box.x + it.clientLeft, box.y + it.clientTop])"
+                        "(it.getBoundingClientRect()))(document.getElementById('book'))")
     page.browser.click(left + across, top + down)
-    time.sleep(0.3)
-    page.browser.session = (inner or [outer])[0]
-    after = page.js(shown)
-    page.browser.session = outer
-    return [before, after]
+    with in_book(page):
+        page.until(f"{shown} !== {json.dumps(before)}")
+        return [before, page.js(shown)]
 
 
 def keys(page: Page, _: str, __: str) -> None:
@@ -386,6 +454,78 @@ def keys(page: Page, _: str, __: str) -> None:
                 and it.get("role", {}).get("value") in NAMELESS
                 and not it.get("name", {}).get("value")]
     page.expect("without a name", nameless, [])
+
+
+def tabs(page: Page, _: str, __: str) -> None:
+    """Tab leads to all that can be used, in order; a game is solved and played by keys alone."""
+    page.use(TIPPY)
+    page.press("solve")
+    page.js(USABLE)
+    page.js("document.body.tabIndex = -1, document.body.focus()")
+    order = []
+    for _ in range(page.js("usable.length")):
+        page.browser.press("Tab")
+        order.append(page.js(FOCUS))
+    page.expect("order of Tab", order, list(range(len(order))))
+    page.expect("stops of Tab", len(order) > 25, True)
+    page.open()
+    page.set("example", "Tippy on 5 by 5")
+    for place, keys_there in ("#solve", ["Enter"]), ("#table *", ["ArrowDown", "Enter"]):
+        for _ in range(60):
+            if page.js(f"document.activeElement.matches({json.dumps(place)})"):
+                break
+            page.browser.press("Tab")
+        for key in keys_there:
+            page.browser.press(key)
+        page.done()
+    marks = page.js("document.querySelectorAll('#table .x, #table .y').length")
+    page.expect("marks after a reply", marks, 3)
+    page.expect("focus", page.js("document.activeElement.ariaLabel").endswith(": O"), True)
+    page.js("document.querySelector('#sets button').focus()")
+    page.browser.press("Enter")
+    page.expect("focus after the last set", page.js("document.activeElement.id"), "no-marks")
+
+
+def speaks(page: Page, _: str, __: str) -> None:
+    """Landmarks and headings lead through the page, and live regions say what is answered."""
+    page.set("example", "Tippy on 5 by 5")
+    page.press("solve")
+    page.browser.call("Accessibility.enable")
+    tree = [it for it in page.browser.call("Accessibility.getFullAXTree")["nodes"]
+            if not it.get("ignored")]
+    roles = [it["role"]["value"] for it in tree]
+    page.expect("landmarks", sorted(it for it in roles if it in LANDMARKS),
+                ["banner", "contentinfo", "main", "region", "region", "region"])
+    regions = [it["name"]["value"] for it in tree if it["role"]["value"] == "region"]
+    page.expect("regions", regions, ["1. The game", "2. Who wins?", "3. The proof"])
+    levels = [prop["value"]["value"] for it in tree if it["role"]["value"] == "heading"
+              for prop in it["properties"] if prop["name"] == "level"]
+    page.expect("headings", levels, [1, 2, 3, 2, 2, 3, 3, 3])
+    live = [prop["value"]["value"] for it in tree if it["role"]["value"] == "status"
+            for prop in it["properties"] if prop["name"] == "live"]
+    page.expect("live regions", live, ["polite"] * 6)
+    said = page.js("[...document.querySelectorAll('[role=status]')].map(it => it.innerText)"
+                   ".join(' ')")
+    page.expect("said", re.findall("wins|The proof takes|choose a free point", said),
+                ["wins", "The proof takes", "choose a free point"])
+
+
+def reads(page: Page, _: str, __: str) -> None:
+    """Texts have contrast, light and dark, and nothing is too small for a finger."""
+    for name in "Tippy on 5 by 5", "Bridg-It":
+        page.set("example", name)
+        page.press("solve")
+        page.js("document.querySelector('details').open = true")
+        if name != "Bridg-It":
+            page.click("#table button", 12)
+            page.done()
+        for scheme, width in ("light", 1100), ("dark", PHONE):
+            page.browser.emulate(scheme=scheme, width=width)
+            page.browser.settle()
+            page.expect(f"{name}, {scheme}: faint", page.js(FAINT), [])
+            page.expect(f"{name}, {scheme}: small", page.js(SMALL), [])
+        page.browser.emulate()
+        page.browser.call("Emulation.clearDeviceMetricsOverride")
 
 
 def closes(page: Page, _: str, __: str) -> None:
@@ -417,48 +557,83 @@ def fits(page: Page, _: str, __: str) -> None:
     page.set("example", "Bridg-It")
     page.press("solve")
     page.press("show-picture")
+    page.press("show-book")
     page.expect("width", page.js("document.documentElement.scrollWidth <= 360"), True)
     page.browser.call("Emulation.clearDeviceMetricsOverride")
 
 
 PARTS: list[Callable[[Page, str, str], None]] = [
-    solves, draws_boards, draws_graphs, stops, checks, plays, shows, keys, closes, fits]
+    solves, draws_boards, draws_graphs, stops, checks, plays, shows, shows_books, keys, tabs,
+    speaks, reads, closes, fits]
+
+
+def shoot(page: Page, path: pathlib.Path, width: int, scheme: str, part: str = "html") -> None:
+    """Stores a picture of a part of the page in a window of a width. The frame of a book, which may
+    be a process of its own, takes a while to be drawn anew."""
+    for height in 900, 0:
+        page.browser.size = width, height or page.js("document.documentElement.scrollHeight")
+        page.browser.emulate(width=width, scheme=scheme)
+        page.browser.settle()
+    page.js("document.activeElement.blur(), scrollTo(0, 0)")
+    time.sleep(3)
+    page.browser.photograph(path, page.js(
+        "(it => ({x: it.x, y: it.y, width: it.width, height: it.height}))"
+        f"(document.querySelector({json.dumps(part)}).getBoundingClientRect())"))
 
 
 def photograph(page: Page, folder: pathlib.Path) -> None:
-    """Stores pictures of the page: a game that was solved and is played, on a desk and a phone."""
+    """Stores pictures of the page: a book, and games that were solved and are played; light and
+    dark, on a desk and a phone."""
+    folder.mkdir(exist_ok=True)
+    looks = ("", 1100, "light"), ("-dark", 1100, "dark"), ("-phone", PHONE, "light")
+    page.set("example", "Tippy on 5 by 5")
+    page.press("solve")
+    page.press("show-book")
+    page.js("document.getElementById('book').scrollIntoView({block: 'center'})")
+    time.sleep(0.5)
+    follow_link(page)
+    for name, width, scheme in looks:
+        shoot(page, folder / f"book{name}.png", width, scheme, "section:last-child")
+    page.open()
     page.set("example", "Tippy on 5 by 5")
     page.press("solve")
     page.click("#table button", 12)
     page.done()
-    page.js("document.activeElement.blur(), scrollTo(0, 0)")
-    for name, width, scheme in (
-            ("desk", 1100, "light"), ("dark", 1100, "dark"), ("phone", PHONE, "light")):
-        page.browser.emulate(width=width, scheme=scheme)
-        page.browser.settle()
-        height = page.js("document.documentElement.scrollHeight")
-        page.browser.size = width, height
-        page.browser.emulate(width=width, scheme=scheme)
-        page.browser.settle()
-        page.browser.photograph(folder / f"{name}.png", {
-            "x": 0, "y": 0, "width": width, "height": height})
+    for name, width, scheme in looks:
+        shoot(page, folder / f"page{name}.png", width, scheme)
+    page.set("example", "Bridg-It")
+    page.press("solve")
+    page.press("show-picture")
+    for name, width, scheme in looks:
+        shoot(page, folder / f"graph{name}.png", width, scheme)
 
 
 def main() -> int:
     given = kit.options(__doc__, "posgame",
                         page=(str(TOP / "web" / "dist" / "posgame.html"), "the page"),
                         draw=(str(kit.built("posgame_draw")), "the program posgame-draw"),
+                        settle=(str(kit.built("posgame_settle")), "the program posgame-settle"),
+                        native=(False, "the programs stand in for the module"),
                         only=("", "the part of this name"), photographs=(None, "a folder"))
-    with tempfile.TemporaryDirectory() as saved, Browser(1100, 900) as browser:
-        page = Page(browser, pathlib.Path(given.page), pathlib.Path(saved))
-        for part in [shows_books] if given.only == "shows_books" else PARTS:
-            if given.only in part.__name__:
+    size = 1100, 900
+    programs = {"posgame": given.program, "posgame-draw": given.draw,
+                "posgame-settle": given.settle}
+    with tempfile.TemporaryDirectory() as saved, \
+            StandIn(*size, programs) if given.native else Browser(*size) as browser:
+        path = pathlib.Path(given.page)
+        if given.native:
+            path = pathlib.Path(saved) / "page.html"
+            path.write_text(making.page(EMPTY), encoding="utf-8")
+        page = Page(browser, path, pathlib.Path(saved))
+        for part in PARTS:
+            if given.only in ("", part.__name__):
                 begun = time.monotonic()
                 page.open()
                 part(page, given.program, given.draw)
                 print(f"{part.__name__}: {page.checks} checks so far, {len(page.wrong)} wrong, "
                       f"{time.monotonic() - begun:.0f} s", flush=True)
         if given.photographs:
+            page.open()
             photograph(page, pathlib.Path(given.photographs))
     for text in page.wrong:
         print(f"wrong: {text}")

@@ -1,14 +1,18 @@
 #!/usr/bin/env python3
-"""Runs the native posgame on many inputs, and prints each run as a line of JSON: its words, input
+"""Runs a native program on many inputs, and prints each run as a line of JSON: its words, input
 and files, and the status, output and files that it left. `compare.mjs` has the module answer the
 same, and compares.
 
-    web/tests/native.py rows [PROGRAM]               the rows of crates/test_stories in memory
-    web/tests/native.py random [PROGRAM] [--runs N]  runs of bench/fuzz.py
+    web/tests/native.py rows [PROGRAM]               posgame: the rows of crates/test_stories
+    web/tests/native.py random [PROGRAM] [--runs N]  posgame: runs of bench/fuzz.py
+    web/tests/native.py settle [PROGRAM]             posgame-settle: the games of examples/
+    web/tests/native.py draw [PROGRAM] [--solver S]  posgame-draw: these games with certificates
 
-Of a row the log that its script tells is printed too, unless it tells only how one begins. Left out
-are random runs that write standard error or end otherwise than the program does, and those whose
-words name what the system refuses as a plain file: in memory any name is one. Unproved.
+Of a row what its script tells is printed too. Where the system's files differ from those in memory
+a run is printed as one that isn't real. Random runs are left out if they write standard error or
+end otherwise than the program does, and if their words name what the system refuses as a plain
+file: in memory any name is one. `draw` takes each game with each certificate of examples/ and with
+what the solver, posgame, stores of it, whole and damaged. Unproved.
 """
 from __future__ import annotations
 
@@ -16,6 +20,7 @@ import base64
 import json
 import pathlib
 import random
+import re
 import sys
 from typing import Iterator, Optional
 
@@ -24,73 +29,32 @@ sys.path.insert(0, str(TOP / "bench"))
 
 import fuzz  # noqa: E402
 import kit  # noqa: E402
+import stories  # noqa: E402
 
-SIGNS = {"s": " ", "t": "\t", "r": "\r", "d": "\x7f"}
-LOGGED = {"says": "<", "hears": ">", "skips": "!", "ended": "."}
 LONGEST = 255
-Entries = list[tuple[str, str]]
-Log = Optional[list[str]]
-
-
-def plain(line: str) -> str:
-    """Returns a line of a text without its signs of other characters."""
-    parts = iter(line)
-    return "".join(SIGNS.get(after := next(parts, ""), after) if it == "\\" else it
-                   for it in parts)
-
-
-def written_out(told: str, texts: dict[str, str]) -> str:
-    """Returns the text that an entry tells."""
-    lines = []
-    for line in map(str.strip, told.split(";")):
-        if line.startswith("@"):
-            lines.append(texts[line[1:]].removesuffix("\n"))
-        elif line.startswith("*"):
-            count, _, one = line[1:].partition(" ")
-            lines += [plain(one)] * int(count)
-        else:
-            lines.append(plain(line))
-    return "\n".join(lines)
-
-
-def entries_of(script: str) -> Entries:
-    """Returns the entries of the script, those that go on over several lines in one."""
-    entries: Entries = []
-    for line in script.splitlines():
-        if line.startswith("  ") and entries:
-            word, rest = entries[-1]
-            entries[-1] = word, f"{rest} {line.strip()};"
-        elif line and not line.startswith("#"):
-            word, _, rest = line.partition(" ")
-            entries.append((word, rest))
-    return entries
-
-
-def rows_of(entries: Entries) -> Iterator[Entries]:
-    """Yields the entries of each row, its name first."""
-    row: Entries = []
-    for entry in entries:
-        if entry[0] == "row":
-            if row:
-                yield row
-            row = []
-        if row or entry[0] == "row":
-            row.append(entry)
-    yield row
-
-
-def log_of(entries: Entries, texts: dict[str, str]) -> Log:
-    """Returns the log that is told of a run, or None if not all of it is."""
-    log: list[str] = []
-    for word, rest in entries:
-        if word in ("begins", "replies"):
-            return None
-        if word == "repeat":
-            log += log[-2:] * int(rest)
-        elif word in LOGGED:
-            text = written_out(rest, texts) + ("\n" if word == "says" else "")
-            log.append(LOGGED[word] + text)
-    return log
+# Rows whose runs the system's files refuse: a file would take the place of one that is read.
+ONLY_IN_MEMORY = {"recording: the record takes the game's place"}
+# What posgame-settle is asked of each game. The last lines have no meaning.
+SETTLED = """\
+G C --positions=3000
+G C --positions=3000 --images --json
+G C --positions=2 --json
+G C --positions=3000 --entries=50 --nodes=5
+moves G --positions=300
+moves G --positions=300 --entries=50 --nodes=100 --json
+moves G --positions=1 --json
+G
+moves
+moves G --images
+G C --positions=0
+G C --json --json
+G C --nodes=200001 --positions=1
+G C other
+"""
+# How many nodes of a claim are drawn, and how many damaged files.
+DRAWN, DAMAGED = 10, 600
+# Nodes that no certificate has.
+NO_NODES = "999999", "9.0", "x", "0.", "", "1.1.1"
 
 
 def packed(data: bytes) -> str:
@@ -103,39 +67,40 @@ def held(folder: pathlib.Path) -> dict[str, str]:
     return {it.name: packed(it.read_bytes()) for it in sorted(folder.iterdir()) if it.is_file()}
 
 
-def show(name: str, words: list[str], typed: bytes, before: dict[str, str], folder: pathlib.Path,
-         run: kit.Run, log: Log = None) -> None:
-    """Prints a run."""
-    print(json.dumps({
-        "name": name, "words": ["posgame", *words], "input": packed(typed), "before": before,
-        "status": run.status, "output": run.output, "after": held(folder), "log": log}))
+class Runs:
+    """A native program and its runs in a folder, each of which is printed."""
+
+    def __init__(self, name: str, path: str, folder: pathlib.Path) -> None:
+        self.name, self.path, self.folder = name, path, folder
+
+    def run(self, name: str, words: list[str], typed: bytes = b"",
+            told: Optional[stories.Told] = None) -> kit.Run:
+        """Runs the program, and prints the run with what is told of it."""
+        before = held(self.folder)
+        run = kit.run(self.path, *words, typed=typed, folder=self.folder)
+        self.show(name, words, typed, before, run, told)
+        return run
+
+    def show(self, name: str, words: list[str], typed: bytes, before: dict[str, str],
+             run: kit.Run, told: Optional[stories.Told] = None) -> None:
+        """Prints a run."""
+        print(json.dumps({
+            "name": name, "words": [self.name, *words], "input": packed(typed), "before": before,
+            "is_real": name not in ONLY_IN_MEMORY, "status": run.status, "output": run.output,
+            "after": held(self.folder), "told": told and {
+                "status": told.status, "log": told.log,
+                "files": {it: (word, packed(text)) for it, (word, text) in told.files.items()}}}))
 
 
-def rows(program: str) -> int:
+def rows(program: str) -> None:
     """Prints the runs of all rows."""
-    script = (TOP / "crates" / "test_stories" / "stdin").read_text(encoding="utf-8")
-    entries = entries_of(script)
-    texts: dict[str, str] = {}
-    for word, rest in entries:
-        if word == "text":
-            name, _, told = rest.partition(" ")
-            texts[name] = written_out(told, texts)
-    for row in rows_of(entries):
-        files = {name: written_out(told, texts).encode() for name, _, told in (
-            rest.partition(" ") for word, rest in row if word == "file")}
-        starts = [at for at, (word, _) in enumerate(row) if word == "run"]
+    for row in stories.rows():
         with kit.files() as folder:
-            for name, data in files.items():
+            for name, data in row.files.items():
                 (folder / name).write_bytes(data)
-            for at, end in zip(starts, [*starts[1:], len(row)]):
-                told = row[at + 1: end]
-                words = ["" if it == "<>" else it for it in row[at][1].split()]
-                typed = written_out(dict(told).get("input", ""), texts).encode()
-                before = held(folder)
-                run = kit.run(program, *words, typed=typed, folder=folder)
-                log = None if dict(row).get("replies") else log_of(told, texts)
-                show(row[0][1], words, typed, before, folder, run, log)
-    return 0
+            runs = Runs("posgame", program, folder)
+            for it in row.runs:
+                runs.run(row.name, it.words, it.typed, it.told)
 
 
 def is_plain(folder: pathlib.Path, words: list[str]) -> bool:
@@ -155,13 +120,14 @@ class Printing(fuzz.Program):
         run = super().run(words, typed)
         if is_same and run.status >= 0 and not run.errors:
             self.count += 1
-            show(f"random {self.count}", words, typed, before, self.folder, run)
+            runs = Runs("posgame", self.path, self.folder)
+            runs.show(f"random {self.count}", words, typed, before, run)
         else:
             self.left += 1
         return run
 
 
-def random_runs(program: str, count: int, seed: int) -> int:
+def random_runs(program: str, count: int, seed: int) -> None:
     """Prints so many runs, or a few more, of cases that bench/fuzz.py draws."""
     with kit.files() as folder:
         quiet = fuzz.Program(program, folder)
@@ -172,20 +138,98 @@ def random_runs(program: str, count: int, seed: int) -> int:
             draw.choice(fuzz.CASES)(draw, printing, pairs)
             number += 1
     print(f"{printing.count} runs, {printing.left} left out", file=sys.stderr)
-    return 0
+
+
+def examples(kind: str) -> Iterator[tuple[str, bytes]]:
+    """Yields the name and the bytes of each file of examples/ of a kind."""
+    for path in sorted(kit.EXAMPLES.glob(f"*.{kind}")):
+        yield path.name, path.read_bytes()
+
+
+def settle(program: str) -> None:
+    """Prints what the games of examples/ are settled to."""
+    for name, game in examples("game"):
+        for words in map(str.split, SETTLED.splitlines()):
+            with kit.files() as folder:
+                (folder / "G").write_bytes(game)
+                Runs("posgame-settle", program, folder).run(name, words)
+
+
+def nodes_of(certificate: bytes) -> list[str]:
+    """Returns words that name nodes: some of each claim, and some that aren't there."""
+    words = list(NO_NODES)
+    for claim, count in enumerate(map(int, re.findall(rb"^nodes (\d+)$", certificate, re.M))):
+        last = min(count, 10**6)
+        chosen = {last * it // DRAWN for it in range(DRAWN)} | {last - 1, last}
+        words += [f"{claim}.{it}" for it in sorted(chosen)]
+    return [*words, *(it[2:] for it in words if it.startswith("0."))]
+
+
+def draw_pair(runs: Runs, name: str, game: bytes, certificate: bytes) -> None:
+    """Prints the book of a pair of files and its picture, and those of nodes, one alone if the
+    certificate is refused."""
+    (runs.folder / "G").write_bytes(game)
+    (runs.folder / "C").write_bytes(certificate)
+    runs.run(name, ["--book", "G", "C"])
+    is_drawn = runs.run(name, ["G", "C"]).status == 0
+    for word in nodes_of(certificate) if is_drawn else ["0"]:
+        runs.run(name, ["G", "C", word])
+
+
+def draw(program: str, solver: str) -> None:
+    """Prints the pictures and the books of games and certificates."""
+    games, certificates = dict(examples("game")), dict(examples("cert"))
+    with kit.files() as folder:
+        runs, solving = Runs("posgame-draw", program, folder), fuzz.Program(solver, folder)
+        for words in [], ["G"], ["--book", "G"], ["G", "C", "0", "0"], ["none", "C"]:
+            runs.run("no files", words)
+        for name, game in games.items():
+            (folder / "G").write_bytes(game)
+            family = kit.family_of(game.decode())
+            runs.run(name, ["G"])
+            for told in certificates:
+                draw_pair(runs, f"{name} {told}", game, certificates[told])
+            for flags in [], [] if family else ["--images"]:
+                solving.run([*family, "solve", "G", "S", *flags])
+                if (folder / "S").exists():
+                    draw_pair(runs, f"{name} solved", game, (folder / "S").read_bytes())
+                    (folder / "S").unlink()
+        pairs = fuzz.pairs_of_examples(solving)
+        for number in range(DAMAGED):
+            draws = random.Random(number)
+            family = draws.choice(["", *kit.FAMILIES])
+            game, certificate = draws.choice(pairs[family])
+            keys, signs = ((fuzz.FAMILY_KEYS, fuzz.FAMILY_SIGNS) if family
+                           else (fuzz.KEYS, fuzz.SIGNS))
+            fuzz.write(folder)
+            (folder / "O").unlink()
+            draw_pair(runs, f"damaged {number}",
+                      fuzz.mutated(draws, game, keys) if draws.randrange(4) == 0 else game,
+                      fuzz.mutated(draws, certificate, signs))
+
+
+def program_of(given: Optional[str], name: str) -> str:
+    """Returns the program that is given, or else the one that is built."""
+    return given or kit.program_path(str(kit.built(name)))
 
 
 def main() -> int:
     words = kit.parser(__doc__, None)
-    words.add_argument("part", choices=["rows", "random"])
-    words.add_argument("program", nargs="?", type=kit.program_path,
-                       default=str(kit.built("posgame")))
+    words.add_argument("part", choices=["rows", "random", "settle", "draw"])
+    words.add_argument("program", nargs="?", type=kit.program_path)
+    words.add_argument("--solver", type=kit.program_path)
     words.add_argument("--runs", type=int, default=5_000)
     words.add_argument("--seed", type=int, default=1)
     given = words.parse_args()
     if given.part == "rows":
-        return rows(given.program)
-    return random_runs(given.program, given.runs, given.seed)
+        rows(program_of(given.program, "posgame"))
+    elif given.part == "random":
+        random_runs(program_of(given.program, "posgame"), given.runs, given.seed)
+    elif given.part == "settle":
+        settle(program_of(given.program, "posgame_settle"))
+    else:
+        draw(program_of(given.program, "posgame_draw"), program_of(given.solver, "posgame"))
+    return 0
 
 
 if __name__ == "__main__":

@@ -1,5 +1,5 @@
 -- A RUN OF `posgame-draw`.
-use Rattle.std.specs.Prelude.{◌≡◌, ℕ, if◌then◌else◌, List, [], ◌∷◌, codes}
+use Rattle.std.specs.Prelude.{◌≡◌, ℕ, if◌then◌else◌, List, [], ◌∷◌, codes, None}
 use Rattle.std.specs.List.{Contains}
 use Rattle.std.specs.Str.{bytes_eq}
 use Rattle.pg_binding.specs.Books.{book_held}
@@ -24,10 +24,10 @@ pub record DrawsPicture (words : List Bytes) (before after : Told) (status : ℕ
   pub causes : HasCause (IsLacking before.files.held (order_of words)) before.files after.files
       before.console after.console status
 
--- the proof of the certificate under the second name is printed as a book, for the game under the
--- first: each clause of `bind` of `pg_binding` holds
+-- the whole proof of the certificate under the second name is printed as a book, for the game under
+-- the first: each clause of `bind` of `pg_binding` holds
 pub record PrintsBook (game certificate : Bytes) (before after : Told) (status : ℕ) : Type 0 where
-  pub ran : BookRan game certificate before.files.held before.console after.console status
+  pub ran : BookRan game certificate None before.files.held before.console after.console status
   pub silent : IsStopped status → Grows before.console.log after.console.log []
   pub statuses : Contains book_statuses status
   pub files : ReadsOnly before.files after.files

@@ -28,7 +28,11 @@ fn print_book(alloc: Global, game: &str, certificate: &str, machine: &mut Machin
     ensures { PrintsBook game.now certificate.now
         (told_by machine.old) (told_by machine.new) result }
 {
-    let order = BookOrder { game, certificate };
+    let order = BookOrder {
+        game,
+        certificate,
+        depth: None,
+    };
     bind(alloc, order, &mut machine.files, &mut machine.console)
 }
 

@@ -8,6 +8,7 @@ pub use Rattle.pg_binding.specs.Prelude.{Opens, OpensCertificate, OpensEvidence,
 pub use Rattle.pg_binding.specs.Prelude.{Read, Refusal, Refused, Size, SpanCert, SpanFlaw}
 pub use Rattle.pg_binding.specs.Prelude.{SpanGame, StandsFor, Stopped, Telling, VecFlaw, VecGame}
 pub use Rattle.pg_binding.specs.Prelude.{WRITE_FAILED, Write, book_text, certificate_held, entry}
+pub use Rattle.pg_binding.specs.Prelude.{IsPlayTree, has_sets, node_count}
 pub use Rattle.pg_binding.specs.Prelude.{evidence_held, game_fault, held_as, refusal_status}
 pub use Rattle.pg_binding.specs.Prelude.{span_book_text, span_cert_held, span_entry, stop_status}
 pub use Rattle.pg_binding.specs.Prelude.{vector_book_text, vector_entry}

@@ -1,22 +1,39 @@
 -- WHAT IS PRINTED, with its status.
-use Rattle.std.specs.Prelude.{◌≡◌, ◌⊎◌, ℕ, Result, Ok, Err, string_bytes}
+use Rattle.std.specs.Prelude.{◌≡◌, ◌⊎◌, ◌≤◌, ℕ, true, Option, Result, Ok, Err, string_bytes}
 use Rattle.pg_binding.specs.Prelude.{Bytes, Cert, DONE, Evidence, Game, Halt, IsHaltDue, IsSaidBy}
-use Rattle.pg_binding.specs.Prelude.{IsSpanValid, IsValid, IsVecValid, Memory, Refusal}
+use Rattle.pg_binding.specs.Prelude.{IsPlayTree, IsSpanValid, IsValid, IsVecValid, Memory}
+use Rattle.pg_binding.specs.Prelude.{Refusal, has_sets, node_count}
 use Rattle.pg_binding.specs.Prelude.{RejectsEvidence, RejectsSpan, RejectsVectors, SpanCert}
 use Rattle.pg_binding.specs.Prelude.{SpanGame, StandsFor, Stopped, Telling, VecGame, book_text}
 use Rattle.pg_binding.specs.Prelude.{refusal_status, refusal_text, span_book_text, span_entry}
 use Rattle.pg_binding.specs.Prelude.{vector_book_text, vector_entry}
+use Rattle.pg_binding.specs.declared.telling.TheConstants.{MAX_PAGES}
 use Rattle.pg_binding.specs.Books.{BookEntry}
 use Rattle.pg_binding.specs.Books.BookEntry.{OfGame, OfSpan, OfVectors}
 
 -- ---- books
 
--- the book of the certificate for which this one stands, which is valid
-pub record IsBook (g : Game) (e : Evidence) (text : Bytes) (status : ℕ) : Type 0 where
+-- the tree of play of a certificate with trees or cuts, which is valid and has few nodes
+pub record IsPlayedOut (g : Game) (cert tree : Cert) : Type 0 where
+  pub sets : has_sets cert ≡ true
+  pub played : IsPlayTree g cert tree
+  pub valid : IsValid g tree
+  pub few : node_count tree.claims ≤ MAX_PAGES
+
+-- what is shown of a certificate: itself, or its tree of play
+abbrev pub IsShownAs : Game → Cert → Cert → Type 0
+IsShownAs g cert shown = (shown ≡ cert) ⊎ IsPlayedOut g cert shown
+
+-- the book, to that depth if there is one, of what is shown of the certificate for which this one
+-- stands, which is valid
+pub record IsBook (g : Game) (e : Evidence) (depth : Option ℕ) (text : Bytes) (status : ℕ)
+    : Type 0 where
   pub cert : Cert
   pub stands : StandsFor g e cert
   pub valid : IsValid g cert
-  pub text_is : text ≡ book_text g cert
+  pub shown : Cert
+  pub shows : IsShownAs g cert shown
+  pub text_is : text ≡ book_text g shown depth
   pub status_is : status ≡ DONE
 
 -- the book of a valid certificate of a connectivity game
@@ -41,9 +58,9 @@ pub record IsRejection (Rejects : Refusal → Type 0) (text : Bytes) (status : �
 -- ---- what was read
 
 -- a certificate's book, or why it is rejected
-abbrev pub IsEvidenceDue : Game → Evidence → Bytes → ℕ → Type 0
-IsEvidenceDue g e text status =
-    IsBook g e text status ⊎ IsRejection (RejectsEvidence g e) text status
+abbrev pub IsEvidenceDue : Game → Evidence → Option ℕ → Bytes → ℕ → Type 0
+IsEvidenceDue g e depth text status =
+    IsBook g e depth text status ⊎ IsRejection (RejectsEvidence g e) text status
 
 abbrev pub IsSpanDue : SpanGame → SpanCert → Bytes → ℕ → Type 0
 IsSpanDue g c text status = IsSpanBook g c text status ⊎ IsRejection (RejectsSpan g c) text status
@@ -52,14 +69,15 @@ abbrev pub AreVectorsDue : VecGame → Cert → Bytes → ℕ → Type 0
 AreVectorsDue g c text status =
     IsVectorBook g c text status ⊎ IsRejection (RejectsVectors g c) text status
 
--- what is printed of a game and a certificate that were read, or of what was refused
-abbrev pub IsBookDue : Result BookEntry Halt → Bytes → ℕ → Type 0
-IsBookDue (Err halt) text status = IsHaltDue halt text status
-IsBookDue (Ok (OfGame entry e)) text status =
-    (g : Game) × IsSaidBy entry g × IsEvidenceDue g e text status
-IsBookDue (Ok (OfSpan entry c)) text status =
+-- what is printed of a game and a certificate that were read, or of what was refused, if books are
+-- to have that depth
+abbrev pub IsBookDue : Option ℕ → Result BookEntry Halt → Bytes → ℕ → Type 0
+IsBookDue depth (Err halt) text status = IsHaltDue halt text status
+IsBookDue depth (Ok (OfGame entry e)) text status =
+    (g : Game) × IsSaidBy entry g × IsEvidenceDue g e depth text status
+IsBookDue depth (Ok (OfSpan entry c)) text status =
     (g : SpanGame) × (span_entry g ≡ entry) × IsSpanDue g c text status
-IsBookDue (Ok (OfVectors entry c)) text status =
+IsBookDue depth (Ok (OfVectors entry c)) text status =
     (g : VecGame) × (vector_entry g ≡ entry) × AreVectorsDue g c text status
 
 -- ---- what the code makes
@@ -68,3 +86,10 @@ IsBookDue (Ok (OfVectors entry c)) text status =
 abbrev pub IsWholeBook : Bytes → Result Telling Halt → Type 0
 IsWholeBook text (Ok told) = (string_bytes told.words ≡ text) × (told.status ≡ DONE)
 IsWholeBook text (Err halt) = halt ≡ Stopped Memory
+
+-- the book of what is shown of a certificate, unless memory ran out
+abbrev pub IsShownBook : Game → Cert → Option ℕ → Result Telling Halt → Type 0
+IsShownBook g cert depth (Ok told) = (shown : Cert) × IsShownAs g cert shown
+    × (string_bytes told.words ≡ book_text g shown depth)
+    × (told.status ≡ DONE)
+IsShownBook g cert depth (Err halt) = halt ≡ Stopped Memory

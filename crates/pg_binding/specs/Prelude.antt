@@ -1,6 +1,6 @@
 -- What the definitions of this crate name of std and of the crates below.
 pub use Rattle.pg_book.specs.Books.{book_text}
-pub use Rattle.pg_cert.specs.Limits.{IsWithinLimits}
+pub use Rattle.pg_cert.specs.Limits.{IsWithinLimits, node_count}
 pub use Rattle.pg_cert.specs.Valid.{IsValid}
 pub use Rattle.pg_cert.specs.declared.cert.Cert.{Cert}
 pub use Rattle.pg_drawing.specs.Boards.{is_other_kind}
@@ -33,6 +33,7 @@ pub use Rattle.pg_messages.specs.declared.refusal.Refusal.{Refusal}
 pub use Rattle.pg_messages.specs.declared.statuses.TheConstants.{DONE, FAULTY_GAME}
 pub use Rattle.pg_messages.specs.declared.statuses.TheConstants.{NO_MEMORY, READ_FAILED, REFUSED}
 pub use Rattle.pg_messages.specs.declared.statuses.TheConstants.{WRITE_FAILED}
+pub use Rattle.pg_play_tree.specs.Tree.{IsPlayTree, has_sets}
 pub use Rattle.pg_span.specs.Valid.{IsFirstFlaw, IsSpanValid}
 pub use Rattle.pg_span.specs.declared.cert.SpanCert.{SpanCert}
 pub use Rattle.pg_span.specs.declared.flaw.SpanFlaw.{SpanFlaw}

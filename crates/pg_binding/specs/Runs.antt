@@ -13,13 +13,14 @@ book_statuses =
     DONE ∷ FAULTY_GAME ∷ REFUSED ∷ READ_FAILED ∷ WRITE_FAILED ∷ NO_MEMORY ∷ []
 
 -- what is due was printed at once, and nothing else
-pub record SaysBook (game certificate : Bytes) (held : Holding) (before after : ConsoleTold)
-    (status : ℕ) : Type 0 where
+pub record SaysBook (game certificate : Bytes) (depth : Option ℕ) (held : Holding)
+    (before after : ConsoleTold) (status : ℕ) : Type 0 where
   pub text : Bytes
-  pub due : IsBookDue (book_held (held game) (held certificate)) text status
+  pub due : IsBookDue depth (book_held (held game) (held certificate)) text status
   pub said : Grows before.log after.log (Said text ∷ [])
 
 -- a run, where it is told what the names contain
-abbrev pub Ran : Bytes → Bytes → Option Holding → ConsoleTold → ConsoleTold → ℕ → Type 0
-Ran game certificate told before after status = IfSome told
-    (λ held. SaysBook game certificate held before after status ⊎ SaysNothing before after status)
+abbrev pub Ran : Bytes → Bytes → Option ℕ → Option Holding → ConsoleTold → ConsoleTold → ℕ
+    → Type 0
+Ran game certificate depth told before after status = IfSome told (λ held.
+    SaysBook game certificate depth held before after status ⊎ SaysNothing before after status)

@@ -1,5 +1,5 @@
 //! Reading the game and the certificate, and what there is to print of them.
-ghost use Rattle.std.specs.Prelude.{◌≡◌, Ok, IfErr, IfOk};
+ghost use Rattle.std.specs.Prelude.{◌≡◌, ℕ, Option, Ok, IfErr, IfOk};
 ghost use Rattle.pg_binding.specs.Prelude.{DONE, Finds, HaltCauses, IsLackingOne, IsLackingTwo};
 ghost use Rattle.pg_binding.specs.Prelude.{IsReadHalt, ReadsOnly, entry, span_entry, vector_entry};
 ghost use Rattle.pg_binding.specs.Games.{any_entry};
@@ -27,9 +27,10 @@ fn tell_on_game<F: Files>(
     files: &mut F,
     game: &Game,
     certificate: &str,
+    depth: Option<u32>,
 ) -> Result<Telling, Halt>
     ensures found { Finds (F.told files.old).held
-        (λ held. IsBookDue
+        (λ held. IsBookDue depth
         (with_evidence (Ok (Positional (entry game.now))) (held certificate.now))) result }
     ensures status { IfOk result (λ told. told.status ≡ DONE) }
     ensures halts { IfErr result IsReadHalt }
@@ -39,7 +40,7 @@ fn tell_on_game<F: Files>(
     ensures kept { ReadsOnly (F.told files.old) (F.told files.new) }
 {
     let evidence = open_evidence(alloc, files, certificate)?;
-    tell_evidence(alloc, game, evidence)
+    tell_evidence(alloc, game, evidence, depth)
 }
 
 /// Returns the book of the certificate under a name for a connectivity game.
@@ -49,8 +50,8 @@ fn tell_on_span<F: Files>(
     game: &SpanGame,
     certificate: &str,
 ) -> Result<Telling, Halt>
-    ensures found { Finds (F.told files.old).held
-        (λ held. IsBookDue
+    ensures found { (depth : Option ℕ) → Finds (F.told files.old).held
+        (λ held. IsBookDue depth
         (with_evidence (Ok (Connectivity (span_entry game.now))) (held certificate.now))) result }
     ensures status { IfOk result (λ told. told.status ≡ DONE) }
     ensures halts { IfErr result IsReadHalt }
@@ -71,8 +72,8 @@ fn tell_on_vectors<F: Files>(
     game: &VecGame,
     certificate: &str,
 ) -> Result<Telling, Halt>
-    ensures found { Finds (F.told files.old).held
-        (λ held. IsBookDue
+    ensures found { (depth : Option ℕ) → Finds (F.told files.old).held
+        (λ held. IsBookDue depth
         (with_evidence (Ok (Vectors (vector_entry game.now))) (held certificate.now))) result }
     ensures status { IfOk result (λ told. told.status ≡ DONE) }
     ensures halts { IfErr result IsReadHalt }
@@ -93,9 +94,10 @@ fn tell_on<F: Files>(
     files: &mut F,
     game: &BookGame,
     certificate: &str,
+    depth: Option<u32>,
 ) -> Result<Telling, Halt>
     ensures found { Finds (F.told files.old).held
-        (λ held. IsBookDue
+        (λ held. IsBookDue depth
         (with_evidence (Ok (any_entry game.now)) (held certificate.now))) result }
     ensures status { IfOk result (λ told. told.status ≡ DONE) }
     ensures halts { IfErr result IsReadHalt }
@@ -105,7 +107,7 @@ fn tell_on<F: Files>(
     ensures kept { ReadsOnly (F.told files.old) (F.told files.new) }
 {
     match game {
-        BookGame::Positional(on) => tell_on_game(alloc, files, on, certificate),
+        BookGame::Positional(on) => tell_on_game(alloc, files, on, certificate, depth),
         BookGame::Connectivity(on) => tell_on_span(alloc, files, on, certificate),
         BookGame::Vectors(on) => tell_on_vectors(alloc, files, on, certificate),
     }
@@ -118,7 +120,7 @@ pub(crate) fn tell<F: Files>(
     files: &mut F,
 ) -> Result<Telling, Halt>
     ensures found { Finds (F.told files.old).held
-        (λ held. IsBookDue (book_held (held order.entry.game.now)
+        (λ held. IsBookDue order.entry.depth (book_held (held order.entry.game.now)
         (held order.entry.certificate.now))) result }
     ensures status { IfOk result (λ told. told.status ≡ DONE) }
     ensures halts { IfErr result IsReadHalt }
@@ -128,5 +130,5 @@ pub(crate) fn tell<F: Files>(
     ensures kept { ReadsOnly (F.told files.old) (F.told files.new) }
 {
     let game = open_book_game(alloc, files, order.game)?;
-    tell_on(alloc, files, &game, order.certificate)
+    tell_on(alloc, files, &game, order.certificate, order.depth)
 }

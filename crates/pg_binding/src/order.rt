@@ -7,4 +7,7 @@ pub struct BookOrder<'a> {
     pub game: &'a str,
     /// The name of the certificate's file.
     pub certificate: &'a str,
+    /// After how many further points at most the positions are that the book of a game on lines or
+    /// of a switching game shows; it shows all if none is given.
+    pub depth: Option<u32>,
 }

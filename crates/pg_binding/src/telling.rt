@@ -3,11 +3,12 @@ ghost use Rattle.std.specs.Prelude.{◌≡◌, IfErr, IfOk};
 ghost use Rattle.pg_binding.specs.Prelude.{DONE, IsFound, IsInnerHalt, IsWithinItsLimits};
 ghost use Rattle.pg_binding.specs.Prelude.{IsWithinLimits, IsWithinRanges, book_text};
 ghost use Rattle.pg_binding.specs.Prelude.{span_book_text, vector_book_text};
-ghost use Rattle.pg_binding.specs.Due.{AreVectorsDue, IsEvidenceDue, IsSpanDue, IsWholeBook};
+ghost use Rattle.pg_binding.specs.Due.{AreVectorsDue, IsEvidenceDue, IsShownBook, IsSpanDue};
+ghost use Rattle.pg_binding.specs.Due.{IsWholeBook};
 
 use pg_book::print_book;
 use pg_cert::Cert;
-use pg_check::CheckFault;
+use pg_check::{CheckFault, Checked};
 use pg_drawing::Telling;
 use pg_evidence::{Evidence, check_standing, standing_of};
 use pg_family_book::{print_span_book, print_vector_book};
@@ -15,37 +16,59 @@ use pg_game::Game;
 use pg_gf2::{VecFault, VecGame, vec_check};
 use pg_io::Stop;
 use pg_messages::{DONE, Refusal};
+use pg_play_tree::play_tree;
 use pg_span::{SpanCert, SpanFault, SpanGame, span_check};
 use pg_talk::Halt;
 use std::alloc::Global;
 
-/// Returns the book of a certificate.
-fn whole_book(alloc: Global, game: &Game, cert: &Cert) -> Result<Telling, Halt>
+/// The most nodes of the trees of play that a book shows in place of trees and cuts.
+const MAX_PAGES: u32 = 400;
+
+/// Returns the book of a certificate, to that depth if there is one.
+fn whole_book(alloc: Global, game: &Game, cert: &Cert, depth: Option<u32>) -> Result<Telling, Halt>
     requires { IsWithinLimits cert.now }
-    ensures { IsWholeBook (book_text game.now cert.now) result }
+    ensures { IsWholeBook (book_text game.now cert.now depth) result }
 {
-    let words = print_book(alloc, game, cert)?;
+    let words = print_book(alloc, game, cert, depth)?;
     Ok(Telling {
         words,
         status: DONE,
     })
 }
 
-/// Returns the book of the certificate for which this one stands, if that is valid.
+/// Returns the book of a valid certificate, to that depth if there is one. If the certificate rests
+/// on trees or cuts, and its tree of play has at most `MAX_PAGES` nodes, it is the book of that.
+fn shown_book(alloc: Global, checked: Checked<'_>, depth: Option<u32>) -> Result<Telling, Halt>
+    requires { IsWithinLimits checked.cert.now }
+    ensures { IsShownBook checked.entry.game.now checked.entry.cert.now depth result }
+{
+    match play_tree(alloc, checked, MAX_PAGES)? {
+        Some(tree) => whole_book(alloc, checked.game, &tree, depth),
+        None => whole_book(alloc, checked.game, checked.cert, depth),
+    }
+}
+
+/// Returns the book of the certificate for which this one stands, to that depth, if that is valid.
+/// Trees and cuts are shown move by move if that has few pages.
 ///
 /// # Errors
 ///
 /// `Halt::Refused` with `Rejected` or `RejectedImage` if it isn't valid, with its first fault.
 /// `Halt::Stopped` with `Stop::Memory` if no memory is found.
-pub(crate) fn tell_evidence(alloc: Global, game: &Game, evidence: Evidence) -> Result<Telling, Halt>
+pub(crate) fn tell_evidence(
+    alloc: Global,
+    game: &Game,
+    evidence: Evidence,
+    depth: Option<u32>,
+) -> Result<Telling, Halt>
     requires { IsWithinItsLimits evidence }
-    ensures found { IsFound (IsEvidenceDue game.now evidence) result }
+    ensures found { IsFound (IsEvidenceDue game.now evidence depth) result }
     ensures status { IfOk result (λ told. told.status ≡ DONE) }
     ensures halts { IfErr result IsInnerHalt }
 {
     let standing = standing_of(alloc, game, evidence)?;
     match check_standing(alloc, game, &standing) {
-        Ok(_) => whole_book(alloc, game, &standing.cert),
+        Ok(checked) => shown_book(alloc, checked, depth),
         Err(CheckFault::Reject { claim, node, why }) => {
             Err(Halt::Refused(Refusal::Rejected { claim, node, why }))
         }

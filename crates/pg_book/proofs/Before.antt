@@ -1,11 +1,8 @@
 -- The first page that leads to a node, and the first reply.
-use Rattle.std.proofs.Common.{◌≡◌, ◌∙◌, ℕ, zero, suc, ◌+◌, Bool, true, false, List, [], ◌∷◌, Option}
-use Rattle.std.proofs.Common.{Some, None, refl, sym, ap, subst}
-use Rattle.std.specs.Prelude.{◌==◌, if◌then◌else◌}
-use Rattle.pg_base.specs.declared.side.Side.{Side}
+use Rattle.std.proofs.Common.{◌≡◌, ◌∙◌, ℕ, suc, ◌+◌}
+use Rattle.std.proofs.Common.{Some, None, ap}
 use Rattle.pg_cert.specs.declared.cert.Claim.{Claim}
-use Rattle.pg_cert.specs.declared.reply.Reply.{Reply}
-use Rattle.pg_book.specs.Origins.{claims_at, first_of, origin_at, reply_origin}
+use Rattle.pg_book.specs.Origins.{first_of, origin_at}
 unfoldable use Rattle.pg_book.specs.Origins.{origin_from}
 use Rattle.pg_book.specs.declared.origins.Origin.{Origin}
 

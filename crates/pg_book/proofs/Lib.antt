@@ -2,4 +2,5 @@ pub mod Rows
 pub mod Before
 pub mod Nodes
 pub mod Members
+pub mod Near
 pub mod Wholes

@@ -1,6 +1,6 @@
 -- Which identities the sections of a book have.
-use Rattle.std.proofs.Common.{◌≡◌, ◌∙◌, ℕ, zero, suc, ◌+◌, ◌-◌, ◌<◌, ◌≤◌, min, true, List, [], ◌∷◌}
-use Rattle.std.proofs.Common.{◌++◌, map, length, Option, Some, None, refl, sym, ap, subst, arith}
+use Rattle.std.proofs.Common.{◌≡◌, ℕ, zero, suc, ◌+◌, ◌-◌, ◌<◌, ◌≤◌, true, List, [], ◌∷◌}
+use Rattle.std.proofs.Common.{length, Option, Some, None, sym, subst, arith}
 use Rattle.std.proofs.Common.{inl, inr}
 use Rattle.std.specs.Prelude.{nat_lt, nat_le, slice_get}
 use Rattle.std.specs.List.{Contains, flat_map, range_with_len}
@@ -11,6 +11,7 @@ use Rattle.std.proofs.lemmas.List.Elements.{Contains-append_left, Contains-appen
 use Rattle.pg_base.proofs.Stands.{some≢none}
 use Rattle.pg_base.specs.Texts.{Bytes}
 use Rattle.pg_cert.specs.declared.cert.Claim.{Claim}
+use Rattle.pg_game.specs.declared.game.Game.{Game}
 use Rattle.pg_game.proofs.Members.{Contains-head, Contains-tail}
 use Rattle.pg_book.specs.Books.{chapter_of}
 use Rattle.pg_book_parts.specs.Chapters.{has_page, page_id, page_of, shown}
@@ -76,12 +77,6 @@ listed chapter node lt le =
     subst (λ n. Contains (chapter_ids chapter) (page_id chapter n)) page
     (page-listed chapter (chapter.count - node - 1) (omega arith))
 
-pub roomy-listed : (chapter : Chapter) (node : ℕ)
-    → node < chapter.count
-    → chapter.count ≤ chapter.room
-    → Contains (chapter_ids chapter) (page_id chapter (page_of chapter node))
-roomy-listed chapter node lt room = listed chapter node lt (omega arith)
-
 pub has-listed : (chapter : Chapter) (node : ℕ)
     → has_page chapter node ≡ true
     → Contains (chapter_ids chapter) (page_id chapter (page_of chapter node))
@@ -94,24 +89,26 @@ has-listed chapter node has =
 
 -- ---- books
 
-pub legend-listed : (claims : List Claim) → Contains (book_ids claims) LEGEND.now
-legend-listed claims =
+pub legend-listed : (g : Game) (depth : Option ℕ) (claims : List Claim)
+    → Contains (book_ids g depth claims) LEGEND.now
+legend-listed g depth claims =
     Contains-append_right
-    (flat_map (λ i. claim_ids (length claims) i (slice_get claims i))
+    (flat_map (λ i. claim_ids g depth (length claims) i (slice_get claims i))
     (range_with_len 0 (length claims)))
     (LEGEND.now ∷ []) LEGEND.now (Contains-head LEGEND.now [])
 
 -- what a claim's sections have, the book has
-pub claim-listed : (claims : List Claim) (i : ℕ) (claim : Claim) (id : Bytes)
+pub claim-listed : (g : Game) (depth : Option ℕ) (claims : List Claim) (i : ℕ) (claim : Claim)
+    (id : Bytes)
     → i < length claims
     → slice_get claims i ≡ Some claim
-    → Contains (chapter_ids (chapter_of (length claims) i claim)) id
-    → Contains (book_ids claims) id
-claim-listed claims i claim id lt at has =
-    let ids : ℕ → List Bytes = λ j. claim_ids (length claims) j (slice_get claims j) in
+    → Contains (chapter_ids (chapter_of g depth (length claims) i claim)) id
+    → Contains (book_ids g depth claims) id
+claim-listed g depth claims i claim id lt at has =
+    let ids : ℕ → List Bytes = λ j. claim_ids g depth (length claims) j (slice_get claims j) in
     let here : Contains (ids i) id =
-    subst (λ (found : Option Claim). Contains (claim_ids (length claims) i found) id) (sym at)
-    has in
+    subst (λ (found : Option Claim). Contains (claim_ids g depth (length claims) i found) id)
+    (sym at) has in
     Contains-append_left (flat_map ids (range_with_len 0 (length claims))) (LEGEND.now ∷ []) id
     (flat-has ids (range_with_len 0 (length claims)) i id
     (range-has 0 (length claims) i (omega arith) (omega arith)) here)

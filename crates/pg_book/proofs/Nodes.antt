@@ -17,7 +17,7 @@ use Rattle.pg_book.specs.Books.{page_pieces, section_pieces}
 use Rattle.pg_book.specs.Scenes.{kept, page_look, page_scene, scene_by}
 use Rattle.pg_book.specs.Showing.{IsShownOf}
 use Rattle.pg_book.specs.declared.scenes.Shown.{Shown}
-use Rattle.pg_book.proofs.Rows.{board-same}
+use Rattle.pg_book.proofs.Rows.{bare-same}
 
 -- a claim and a number name one node
 claims-same : (c : Cert) (i k : ℕ) (whole claim : Claim) (node part : Node)
@@ -56,7 +56,7 @@ shows g c i k scene found shown is same picture legend claim part named =
       is = same;
       picture = picture
           ∙ ap (λ b. picture_of page_look (scene_by b (flat_map kept scene.items)))
-          (board-same g.field scene.board at.board)
+          (bare-same g.field scene.board at.board)
           ∙ ap (λ items. picture_of page_look (scene_by (board_of g.field) (flat_map kept items)))
           at.items;
       legend = legend ∙ at.legend;

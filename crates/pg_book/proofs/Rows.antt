@@ -15,7 +15,9 @@ use Rattle.pg_scene.specs.Limits.{IsBridge}
 use Rattle.pg_scene.specs.Scenes.{IsBoardOf}
 use Rattle.pg_scene.specs.declared.board.Board.{Board}
 use Rattle.pg_scene.specs.declared.board.Board.TheVariants.{Graph}
+use Rattle.pg_scene.specs.declared.look.Look.{Look}
 use Rattle.pg_book.specs.Boards.{are_same, board_of}
+use Rattle.pg_book.specs.Scenes.{page_look}
 unfoldable use Rattle.pg_book.specs.Boards.{is_bridge, rows_below, rows_of}
 
 -- ---- tests
@@ -165,7 +167,18 @@ rows-same h (Some r) found missed =
 rows-same h None found missed =
     sym (misses h (suc MAX_BRIDGE_ROWS) (λ r is. missed r (tells h r is)))
 
-pub board-same : (field : Field) (board : Board) → IsBoardOf field board → board ≡ board_of field
-board-same (fields.Lines f) board is = is
-board-same (fields.Graph h) board is = is.same
+-- the board of a scene without a layout
+pub bare-same : (field : Field) (board : Board)
+    → IsBoardOf None field board
+    → board ≡ board_of field
+bare-same (fields.Lines f) board is = is
+bare-same (fields.Graph h) board is = is.same
     ∙ ap (Graph h.vertices h.ends (h.s ∷ h.t ∷ [])) (rows-same h is.rows is.found is.missed)
+
+-- that of a page's scene
+pub board-same : (look : Look) (field : Field) (board : Board)
+    → look ≡ page_look
+    → IsBoardOf look.layout field board
+    → board ≡ board_of field
+board-same look field board looks is =
+    bare-same field board (subst (λ (l : Look). IsBoardOf l.layout field board) looks is)

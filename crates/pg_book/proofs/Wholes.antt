@@ -1,5 +1,5 @@
 -- Books are whole, have the sections that they owe, and their links lead to these.
-use Rattle.std.proofs.Common.{◌≡◌, ℕ, ◌+◌, ◌-◌, ◌<◌, ◌≤◌, Bool, true, false, List, [], ◌∷◌, ◌++◌}
+use Rattle.std.proofs.Common.{◌≡◌, ℕ, ◌+◌, ◌-◌, ◌<◌, true, List, [], ◌∷◌, ◌++◌}
 use Rattle.std.proofs.Common.{length, Option, Some, None, refl, sym, subst, arith}
 use Rattle.std.specs.Prelude.{codes, slice_get}
 use Rattle.std.specs.List.{All, Contains, flat_map, range_with_len}
@@ -18,7 +18,7 @@ use Rattle.pg_cert.specs.declared.reply.Reply.{Reply}
 use Rattle.pg_draw.specs.Pictures.{picture_of}
 use Rattle.pg_game.specs.declared.game.Game.{Game}
 use Rattle.pg_page.specs.Events.{IsWhole}
-use Rattle.pg_page.specs.Html.{numbered, worded}
+use Rattle.pg_page.specs.Html.{worded}
 use Rattle.pg_page.specs.declared.attribute.Name.TheVariants as names
 use Rattle.pg_page.specs.declared.piece.Piece.{Piece}
 use Rattle.pg_page.specs.declared.piece.Piece.TheVariants as pieces
@@ -26,7 +26,7 @@ use Rattle.pg_page.specs.declared.tag.LoneTag.TheVariants as lone
 use Rattle.pg_page.specs.declared.tag.Tag.TheVariants as tags
 use Rattle.pg_picture.specs.declared.picture.Picture.{Picture}
 use Rattle.pg_scene.specs.Legends.{body_lines}
-use Rattle.pg_book.specs.Books.{board_pieces, book_by, book_pieces, chapter_of, charset_pieces}
+use Rattle.pg_book.specs.Books.{board_pieces, book_pieces, chapter_of, charset_pieces}
 use Rattle.pg_book.specs.Books.{claim_by, claims_pieces, detail_pieces, entries_pieces, entry_by}
 use Rattle.pg_book.specs.Books.{entry_pieces, entry_words, form_pieces, head_pieces, header_pieces}
 use Rattle.pg_book.specs.Books.{heading_pieces, leave_pieces, legend_attributes, legend_heading}
@@ -37,10 +37,11 @@ use Rattle.pg_book.specs.Books.{reset_pieces, scheme_pieces, section_at, section
 use Rattle.pg_book.specs.Books.{sections_pieces, sheet_pieces, sheet_text, shown_pieces}
 use Rattle.pg_book.specs.Books.{svg_attributes, svg_pieces, title_pieces, top_pieces}
 use Rattle.pg_book.specs.Books.{viewport_pieces}
-use Rattle.pg_book_parts.specs.Chapters.{has_page, link_by, link_pieces, number_text, page_id}
+use Rattle.pg_book_parts.specs.Chapters.{has_page, link_pieces, number_text, page_id}
 use Rattle.pg_book_parts.specs.Chapters.{page_of}
 use Rattle.pg_book_parts.specs.Chapters.{shown}
-use Rattle.pg_book_parts.specs.Elements.{paragraph}
+use Rattle.pg_book_parts.specs.Elements.{element, paragraph}
+use Rattle.pg_book.specs.Depths.{depth_pieces, depth_words, ordered}
 use Rattle.pg_book.specs.Laws.{book_ids, chapter_ids, claim_ids}
 use Rattle.pg_book_parts.specs.Reading.{section_ids, targets}
 use Rattle.pg_book_parts.specs.Pictures.{over_pieces, shape_pieces}
@@ -128,6 +129,10 @@ module _ (ok : Bytes → Type 0) where
       → IsPart ok [] (paragraph words ++ after)
   paragraphs-part words after p =
       then-part ok [] (paragraph words) after (paragraph-part ok words) p
+
+  depth-part : (depth : Option ℕ) → IsPart ok [] (depth_pieces depth)
+  depth-part None = no-part ok
+  depth-part (Some moves) = paragraph-part ok (depth_words moves)
 
   legend-part : IsPart ok (LEGEND.now ∷ []) legend_pieces
   legend-part =
@@ -317,93 +322,101 @@ none-flat : (xs : List ℕ) → flat_map no_ids xs ≡ []
 none-flat [] = refl
 none-flat (x ∷ xs) = none-flat xs
 
-module _ (g : Game) (layout : Layout) (claims : List Claim) where
+module _ (g : Game) (layout : Layout) (depth : Option ℕ) (claims : List Claim) where
   abbrev ok : Bytes → Type 0
-  ok = Contains (book_ids claims)
+  ok = Contains (book_ids g depth claims)
 
   -- the pages of a claim of the book are among its sections
   pages-ok : (i : ℕ) (claim : Claim)
       → i < length claims
       → slice_get claims i ≡ Some claim
       → (node : ℕ)
-      → has_page (chapter_of (length claims) i claim) node ≡ true
-      → ok (page_id (chapter_of (length claims) i claim)
-      (page_of (chapter_of (length claims) i claim) node))
-  pages-ok i claim lt at node has = claim-listed claims i claim _ lt at
-      (has-listed (chapter_of (length claims) i claim) node has)
+      → has_page (chapter_of g depth (length claims) i claim) node ≡ true
+      → ok (page_id (chapter_of g depth (length claims) i claim)
+      (page_of (chapter_of g depth (length claims) i claim) node))
+  pages-ok i claim lt at node has = claim-listed g depth claims i claim _ lt at
+      (has-listed (chapter_of g depth (length claims) i claim) node has)
 
   claim-part : (i : ℕ) (found : Option Claim)
       → i < length claims
       → slice_get claims i ≡ found
-      → IsPart ok (claim_ids (length claims) i found) (claim_by g layout (length claims) i found)
+      → IsPart ok (claim_ids g depth (length claims) i found)
+      (claim_by g layout depth (length claims) i found)
   claim-part i None lt at = no-part ok
-  claim-part i (Some claim) lt at = sections-part ok (chapter_of (length claims) i claim)
-      (pages-ok i claim lt at) (legend-listed claims) g layout claim refl
+  claim-part i (Some claim) lt at = sections-part ok (chapter_of g depth (length claims) i claim)
+      (pages-ok i claim lt at) (legend-listed g depth claims) g layout claim refl
 
   claims-part : IsPart ok
-      (flat_map (λ i. claim_ids (length claims) i (slice_get claims i))
+      (flat_map (λ i. claim_ids g depth (length claims) i (slice_get claims i))
       (range_with_len 0 (length claims)))
-      (claims_pieces g layout claims)
-  claims-part = range-part ok (λ i. claim_by g layout (length claims) i (slice_get claims i))
-      (λ i. claim_ids (length claims) i (slice_get claims i)) 0 (length claims)
+      (claims_pieces g layout depth claims)
+  claims-part = range-part ok (λ i. claim_by g layout depth (length claims) i (slice_get claims i))
+      (λ i. claim_ids g depth (length claims) i (slice_get claims i)) 0 (length claims)
       (λ i low high. claim-part i (slice_get claims i) (omega arith) refl)
 
-  entry-by-part : (kind : Kind) (i : ℕ) (found : Option Claim)
+  entry-by-part : (i : ℕ) (found : Option Claim)
       → i < length claims
       → slice_get claims i ≡ found
-      → IsPart ok [] (entry_by kind (length claims) i found)
-  entry-by-part kind i None lt at = no-part ok
-  entry-by-part kind i (Some claim) lt at = entry-part ok (chapter_of (length claims) i claim)
-      (pages-ok i claim lt at) (legend-listed claims) kind claim
+      → IsPart ok [] (entry_by g depth (length claims) i found)
+  entry-by-part i None lt at = no-part ok
+  entry-by-part i (Some claim) lt at =
+      entry-part ok (chapter_of g depth (length claims) i claim) (pages-ok i claim lt at)
+      (legend-listed g depth claims) g.kind claim
 
-  entries-part : (kind : Kind) → IsPart ok [] (entries_pieces kind claims)
-  entries-part kind = subst (λ ids. IsPart ok ids (entries_pieces kind claims))
+  entries-part : IsPart ok [] (entries_pieces g depth claims)
+  entries-part = subst (λ ids. IsPart ok ids (entries_pieces g depth claims))
       (none-flat (range_with_len 0 (length claims)))
-      (range-part ok (λ i. entry_by kind (length claims) i (slice_get claims i)) no_ids 0
-      (length claims)
-      (λ i low high. entry-by-part kind i (slice_get claims i) (omega arith) refl))
+      (range-part ok (λ i. entry_by g depth (length claims) i (slice_get claims i)) no_ids 0
+      (length claims) (λ i low high. entry-by-part i (slice_get claims i) (omega arith) refl))
 
-  header-part : (kind : Kind) → IsPart ok [] (header_pieces kind claims)
-  header-part kind =
-      plain-part ok tags.Header [] [] (top_pieces ++ entries_pieces kind claims) refl refl
-      (then-part ok [] top_pieces (entries_pieces kind claims)
-      (label-part ok tags.H1 [] TITLE.now refl refl) (entries-part kind))
+  header-part : IsPart ok [] (header_pieces g depth claims)
+  header-part =
+      let said = entries_pieces g depth claims ++ depth_pieces depth in
+      plain-part ok tags.Header [] [] (top_pieces ++ said) refl refl
+      (then-part ok [] top_pieces said (label-part ok tags.H1 [] TITLE.now refl refl)
+      (then-part ok [] (entries_pieces g depth claims) (depth_pieces depth) entries-part
+      (depth-part ok depth)))
 
-  main-part : IsPart ok (book_ids claims) (main_pieces g layout claims)
-  main-part = plain-part ok tags.Main [] (book_ids claims)
-      (claims_pieces g layout claims ++ legend_pieces) refl refl (both-parts ok (flat_map (λ i.
-      claim_ids (length claims) i (slice_get claims i)) (range_with_len 0 (length claims)))
-      (LEGEND.now ∷ []) (claims_pieces g layout claims) legend_pieces claims-part (legend-part ok))
+  main-part : IsPart ok (book_ids g depth claims) (main_pieces g layout depth claims)
+  main-part = plain-part ok tags.Main [] (book_ids g depth claims)
+      (claims_pieces g layout depth claims ++ legend_pieces) refl refl
+      (both-parts ok
+      (flat_map (λ i. claim_ids g depth (length claims) i (slice_get claims i))
+      (range_with_len 0 (length claims)))
+      (LEGEND.now ∷ []) (claims_pieces g layout depth claims) legend_pieces claims-part
+      (legend-part ok))
 
-  shown-part : IsPart ok (book_ids claims) (shown_pieces g layout claims)
-  shown-part = plain-part ok tags.Body [] (book_ids claims)
-      (header_pieces layout.kind claims ++ main_pieces g layout claims) refl refl
-      (then-part ok (book_ids claims) (header_pieces layout.kind claims)
-      (main_pieces g layout claims) (header-part layout.kind) main-part)
+  shown-part : IsPart ok (book_ids g depth claims) (shown_pieces g layout depth claims)
+  shown-part = plain-part ok tags.Body [] (book_ids g depth claims)
+      (header_pieces g depth claims ++ main_pieces g layout depth claims) refl refl
+      (then-part ok (book_ids g depth claims) (header_pieces g depth claims)
+      (main_pieces g layout depth claims) header-part main-part)
 
--- the pieces of a book, whatever layout its moves are named and placed by
-by-part : (g : Game) (layout : Layout) (c : Cert)
-    → IsPart (Contains (book_ids c.claims)) (book_ids c.claims) (book_by g layout c)
-by-part g layout c = plain-part (Contains (book_ids c.claims)) tags.Html
-    (worded names.Lang (codes "en") ∷ []) (book_ids c.claims)
-    (head_pieces (blank_picture g) ++ shown_pieces g layout c.claims) refl refl
-    (then-part (Contains (book_ids c.claims)) (book_ids c.claims) (head_pieces (blank_picture g))
-    (shown_pieces g layout c.claims)
-    (head-part (Contains (book_ids c.claims)) (blank_picture g))
-    (shown-part g layout c.claims))
+  -- the pieces of a book, whatever layout its moves are named and placed by
+  pub by-part : IsPart ok (book_ids g depth claims)
+      (element tags.Html (worded names.Lang (codes "en") ∷ [])
+      (head_pieces (blank_picture g) ++ shown_pieces g layout depth claims))
+  by-part = plain-part ok tags.Html (worded names.Lang (codes "en") ∷ [])
+      (book_ids g depth claims)
+      (head_pieces (blank_picture g) ++ shown_pieces g layout depth claims) refl refl
+      (then-part ok (book_ids g depth claims) (head_pieces (blank_picture g))
+      (shown_pieces g layout depth claims) (head-part ok (blank_picture g)) shown-part)
 
-book-part : (g : Game) (c : Cert)
-    → IsPart (Contains (book_ids c.claims)) (book_ids c.claims) (book_pieces g c)
-book-part g c = by-part g (layout_of g) c
+book-part : (g : Game) (c : Cert) (depth : Option ℕ)
+    → IsPart (Contains (book_ids g depth (ordered g depth c).claims))
+    (book_ids g depth (ordered g depth c).claims) (book_pieces g c depth)
+book-part g c depth = by-part g (layout_of g) depth (ordered g depth c).claims
 
-pub book-whole : (g : Game) (c : Cert) → IsWhole (book_pieces g c)
-book-whole g c = (book-part g c).whole
+pub book-whole : (g : Game) (c : Cert) (depth : Option ℕ) → IsWhole (book_pieces g c depth)
+book-whole g c depth = (book-part g c depth).whole
 
-pub book-sections : (g : Game) (c : Cert)
-    → flat_map section_ids (book_pieces g c) ≡ book_ids c.claims
-book-sections g c = (book-part g c).sections
+pub book-sections : (g : Game) (c : Cert) (depth : Option ℕ)
+    → flat_map section_ids (book_pieces g c depth)
+    ≡ book_ids g depth (ordered g depth c).claims
+book-sections g c depth = (book-part g c depth).sections
 
-pub book-leads : (g : Game) (c : Cert)
-    → All (Contains (flat_map section_ids (book_pieces g c))) (flat_map targets (book_pieces g c))
-book-leads g c = subst (λ ids. All (Contains ids) (flat_map targets (book_pieces g c)))
-    (sym (book-sections g c)) (book-part g c).leads
+pub book-leads : (g : Game) (c : Cert) (depth : Option ℕ)
+    → All (Contains (flat_map section_ids (book_pieces g c depth)))
+    (flat_map targets (book_pieces g c depth))
+book-leads g c depth = subst (λ ids. All (Contains ids) (flat_map targets (book_pieces g c depth)))
+    (sym (book-sections g c depth)) (book-part g c depth).leads

@@ -1,5 +1,5 @@
 -- A certificate as a book: a section for each node, and the text of the page.
-use Rattle.std.specs.Prelude.{ℕ, ◌+◌, ◌-◌, ◌/◌, Bool, ◌&&◌, ◌==◌, max, if◌then◌else◌, List, []}
+use Rattle.std.specs.Prelude.{ℕ, ◌+◌, ◌-◌, Bool, ◌&&◌, ◌==◌, if◌then◌else◌, List, []}
 use Rattle.std.specs.Prelude.{◌∷◌, ◌++◌, codes, decimal, length, Option, Some, None, slice_get}
 use Rattle.std.specs.List.{flat_map, range_with_len}
 use Rattle.percent_encoding.specs.Percent.{percent_encode}
@@ -34,12 +34,13 @@ use Rattle.pg_book_parts.specs.Pictures.{over_pieces, shape_pieces, view_text}
 use Rattle.pg_book.specs.Origins.{origin_of, origin_pieces}
 use Rattle.pg_book.specs.Scenes.{blank_picture, page_look, page_scene}
 use Rattle.pg_book.specs.Boards.{layout_of}
+use Rattle.pg_book.specs.Depths.{depth_pieces, ordered, room_of}
 use Rattle.pg_book.specs.Sentences.{body_pieces}
 use Rattle.pg_book_parts.specs.declared.chapter.Chapter.{Chapter}
 use Rattle.pg_book_parts.specs.declared.layout.Layout.{Layout}
 use Rattle.pg_book.specs.declared.front.TheConstants.{LEGEND, LEGEND_LINKS, LEGEND_MARKS}
-use Rattle.pg_book.specs.declared.front.TheConstants.{LEGEND_PAIRS, LEGEND_STEPS, MAX_SECTIONS}
-use Rattle.pg_book.specs.declared.front.TheConstants.{NOTHING_RUNS, TITLE}
+use Rattle.pg_book.specs.declared.front.TheConstants.{LEGEND_PAIRS, LEGEND_STEPS, NOTHING_RUNS}
+use Rattle.pg_book.specs.declared.front.TheConstants.{TITLE}
 use Rattle.pg_book.specs.declared.sheet.TheConstants.{BOARD_BEGUN, BOARD_ENDED, STYLE}
 
 -- ---- pages
@@ -138,13 +139,10 @@ section_at g layout claim chapter page = section_by g layout claim chapter page
 
 -- ---- claims
 
--- the pages of the claim of that number, of so many: they share the room
-abbrev pub chapter_of : ℕ → ℕ → Claim → Chapter
-chapter_of claims i claim = record {
-  claim = i;
-  count = length claim.nodes;
-  room = MAX_SECTIONS / max claims 1;
-}
+-- the pages of the claim of that number, of so many, in a book of that depth
+abbrev pub chapter_of : Game → Option ℕ → ℕ → ℕ → Claim → Chapter
+chapter_of g depth claims i claim =
+    record { claim = i; count = length claim.nodes; room = room_of g depth claims claim }
 
 -- the sections of a claim, from its root on
 abbrev pub sections_pieces : Game → Layout → Claim → Chapter → List Piece
@@ -152,15 +150,15 @@ sections_pieces g layout claim chapter =
     flat_map (λ i. section_at g layout claim chapter (i + 1)) (range_with_len 0 (shown chapter))
 
 -- the sections of the claim of that number, if there is one
-abbrev pub claim_by : Game → Layout → ℕ → ℕ → Option Claim → List Piece
-claim_by g layout claims i None = []
-claim_by g layout claims i (Some claim) =
-    sections_pieces g layout claim (chapter_of claims i claim)
+abbrev pub claim_by : Game → Layout → Option ℕ → ℕ → ℕ → Option Claim → List Piece
+claim_by g layout depth claims i None = []
+claim_by g layout depth claims i (Some claim) =
+    sections_pieces g layout claim (chapter_of g depth claims i claim)
 
 -- the sections of all claims
-abbrev pub claims_pieces : Game → Layout → List Claim → List Piece
-claims_pieces g layout claims =
-    flat_map (λ i. claim_by g layout (length claims) i (slice_get claims i))
+abbrev pub claims_pieces : Game → Layout → Option ℕ → List Claim → List Piece
+claims_pieces g layout depth claims =
+    flat_map (λ i. claim_by g layout depth (length claims) i (slice_get claims i))
     (range_with_len 0 (length claims))
 
 -- ---- the front
@@ -186,13 +184,15 @@ abbrev pub entry_pieces : Kind → Claim → Chapter → List Piece
 entry_pieces kind claim chapter = element tags.P []
     (pieces.Words (entry_words kind claim chapter) ∷ link_pieces chapter (chapter.count - 1))
 
-abbrev pub entry_by : Kind → ℕ → ℕ → Option Claim → List Piece
-entry_by kind claims i None = []
-entry_by kind claims i (Some claim) = entry_pieces kind claim (chapter_of claims i claim)
+abbrev pub entry_by : Game → Option ℕ → ℕ → ℕ → Option Claim → List Piece
+entry_by g depth claims i None = []
+entry_by g depth claims i (Some claim) =
+    entry_pieces g.kind claim (chapter_of g depth claims i claim)
 
 -- all claims
-abbrev pub entries_pieces : Kind → List Claim → List Piece
-entries_pieces kind claims = flat_map (λ i. entry_by kind (length claims) i (slice_get claims i))
+abbrev pub entries_pieces : Game → Option ℕ → List Claim → List Piece
+entries_pieces g depth claims =
+    flat_map (λ i. entry_by g depth (length claims) i (slice_get claims i))
     (range_with_len 0 (length claims))
 
 -- what marks and colours mean
@@ -244,38 +244,40 @@ abbrev pub head_pieces : Picture → List Piece
 head_pieces board =
     element tags.Head [] (metas_pieces ++ (title_pieces ++ sheet_pieces board))
 
--- the title, and what the claims say
+-- the title, what the claims say, and how far the book reads on
 abbrev pub top_pieces : List Piece
 top_pieces = labelled tags.H1 [] TITLE.now
 
-abbrev pub header_pieces : Kind → List Claim → List Piece
-header_pieces kind claims = element tags.Header [] (top_pieces ++ entries_pieces kind claims)
+abbrev pub header_pieces : Game → Option ℕ → List Claim → List Piece
+header_pieces g depth claims = element tags.Header []
+    (top_pieces ++ (entries_pieces g depth claims ++ depth_pieces depth))
 
 -- the sections, and the legend
-abbrev pub main_pieces : Game → Layout → List Claim → List Piece
-main_pieces g layout claims =
-    element tags.Main [] (claims_pieces g layout claims ++ legend_pieces)
+abbrev pub main_pieces : Game → Layout → Option ℕ → List Claim → List Piece
+main_pieces g layout depth claims =
+    element tags.Main [] (claims_pieces g layout depth claims ++ legend_pieces)
 
 -- ---- books
 
 -- what is shown
-abbrev pub shown_pieces : Game → Layout → List Claim → List Piece
-shown_pieces g layout claims =
-    element tags.Body [] (header_pieces layout.kind claims ++ main_pieces g layout claims)
+abbrev pub shown_pieces : Game → Layout → Option ℕ → List Claim → List Piece
+shown_pieces g layout depth claims =
+    element tags.Body [] (header_pieces g depth claims ++ main_pieces g layout depth claims)
 
 -- the tag that opens the page
 abbrev pub html_pieces : List Piece
 html_pieces = pieces.Open tags.Html (worded names.Lang (codes "en") ∷ []) ∷ []
 
--- the page of a certificate whose moves are named and placed by a layout
-abbrev pub book_by : Game → Layout → Cert → List Piece
-book_by g layout c = element tags.Html (worded names.Lang (codes "en") ∷ [])
-    (head_pieces (blank_picture g) ++ shown_pieces g layout c.claims)
+-- the page of a certificate whose nodes are in their order, and whose moves are named and placed by
+-- a layout
+abbrev pub book_by : Game → Layout → Option ℕ → Cert → List Piece
+book_by g layout depth c = element tags.Html (worded names.Lang (codes "en") ∷ [])
+    (head_pieces (blank_picture g) ++ shown_pieces g layout depth c.claims)
 
--- the page of a certificate
-abbrev pub book_pieces : Game → Cert → List Piece
-book_pieces g c = book_by g (layout_of g) c
+-- the page of a certificate, to that depth if there is one
+abbrev pub book_pieces : Game → Cert → Option ℕ → List Piece
+book_pieces g c depth = book_by g (layout_of g) depth (ordered g depth c)
 
 -- its text
-abbrev pub book_text : Game → Cert → Bytes
-book_text g c = page_text (book_pieces g c)
+abbrev pub book_text : Game → Cert → Option ℕ → Bytes
+book_text g c depth = page_text (book_pieces g c depth)

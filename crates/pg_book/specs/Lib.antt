@@ -3,5 +3,6 @@ pub mod Scenes
 pub mod Showing
 pub mod Origins
 pub mod Sentences
+pub mod Depths
 pub mod Books
 pub mod Laws

@@ -1,5 +1,5 @@
 -- What is to be seen on a page: the board of a node, with what its body names.
-use Rattle.std.specs.Prelude.{ℕ, true, false, List, [], ◌∷◌, ◌++◌, Some, None}
+use Rattle.std.specs.Prelude.{true, false, List, [], ◌∷◌, ◌++◌, Some, None}
 use Rattle.std.specs.List.{flat_map}
 use Rattle.std.specs.FinSet.{empty}
 use Rattle.pg_base.specs.declared.side.Side.{Side}
@@ -21,8 +21,14 @@ use Rattle.pg_book.specs.Boards.{board_of}
 
 -- what a page shows of a node: no lines, and of the legend what the body says
 abbrev pub page_look : Look
-page_look =
-    record { numbers = true; lines = false; legend = OfBody; size = None; blank = None }
+page_look = record {
+  numbers = true;
+  lines = false;
+  legend = OfBody;
+  size = None;
+  blank = None;
+  layout = None;
+}
 
 -- ---- items
 

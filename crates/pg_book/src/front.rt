@@ -3,6 +3,7 @@ ghost use Rattle.std.specs.Prelude.{◌≡◌, ◌≤◌, ◌<◌, ◌++◌, IfO
 ghost use Rattle.std.specs.Prelude.{string_bytes};
 ghost use Rattle.std.specs.List.{All};
 ghost use Rattle.pg_cert.specs.declared.limits.TheConstants.{MAX_CLAIMS, MAX_CLAIM_NODES};
+ghost use Rattle.pg_book.specs.Depths.{depth_pieces, depth_words, room_of};
 ghost use Rattle.pg_book.specs.Books.{chapter_of, charset_pieces, claim_words, entries_pieces};
 ghost use Rattle.pg_book.specs.Books.{entry_by, goal_words};
 ghost use Rattle.pg_book.specs.Books.{entry_pieces, entry_words, head_pieces, legend_attributes};
@@ -12,6 +13,8 @@ use crate::sheet::push_sheet;
 use pg_base::{Goal, Kind, Memory};
 use pg_book_parts::{Chapter, push_link, push_paragraph, push_plain};
 use pg_cert::Claim;
+use pg_game::Game;
+use pg_near::near_count;
 use pg_page::{Attributes, LoneTag, Name, Piece, Tag, push_close, push_open, push_words};
 use pg_picture::{Picture, Text};
 use pg_scene::side_name;
@@ -105,17 +108,37 @@ pub(crate) fn push_head(
     push_close(pieces, Tag::Head)
 }
 
+/// How many pages a claim, of so many, may have: its share, and with a depth no more than it has
+/// near nodes.
+fn room_of(g: &Game, depth: Option<u32>, claims: usize, claim: &Claim) -> u32
+    requires claims { claims ≤ MAX_CLAIMS }
+    requires nodes { length claim.now.nodes ≤ MAX_CLAIM_NODES }
+    ensures { result ≡ room_of g.now depth claims claim.now }
+{
+    let share = MAX_SECTIONS / (claims as u32).max(1);
+    match depth {
+        None => share,
+        Some(moves) => share.min(near_count(g, moves, claim.nodes.as_slice())),
+    }
+}
+
 /// What the pages of the claim of that number, of so many, are numbered by.
-pub(crate) fn chapter_of(claims: usize, i: usize, claim: &Claim) -> Chapter
+pub(crate) fn chapter_of(
+    g: &Game,
+    depth: Option<u32>,
+    claims: usize,
+    i: usize,
+    claim: &Claim,
+) -> Chapter
     requires claims { claims ≤ MAX_CLAIMS }
     requires one { i < claims }
     requires nodes { length claim.now.nodes ≤ MAX_CLAIM_NODES }
-    ensures { result ≡ chapter_of claims i claim.now }
+    ensures { result ≡ chapter_of g.now depth claims i claim.now }
 {
     Chapter {
         claim: i as u32,
         count: claim.nodes.as_slice().len() as u32,
-        room: MAX_SECTIONS / (claims as u32).max(1),
+        room: room_of(g, depth, claims, claim),
     }
 }
 
@@ -175,7 +198,8 @@ fn push_entry(
 fn push_entry_at(
     alloc: Global,
     pieces: &mut Vec<Piece>,
-    kind: Kind,
+    g: &Game,
+    depth: Option<u32>,
     claims: &[Claim],
     i: usize,
 ) -> Result<(), Memory>
@@ -184,29 +208,58 @@ fn push_entry_at(
     requires one { i < length claims.now }
     ensures { OnOk result
         (pieces.new.items
-        ≡ pieces.old.items ++ entry_by kind (length claims.now) i (slice_get claims.now i)) }
+        ≡ pieces.old.items
+        ++ entry_by g.now depth (length claims.now) i (slice_get claims.now i)) }
 {
     let claim = &claims[i];
-    let chapter = chapter_of(claims.len(), i, claim);
-    push_entry(alloc, pieces, kind, claim, chapter)
+    let chapter = chapter_of(g, depth, claims.len(), i, claim);
+    push_entry(alloc, pieces, g.kind, claim, chapter)
 }
 
 /// Adds what claims say, each with a link to its first page.
 pub(crate) fn push_entries(
     alloc: Global,
     pieces: &mut Vec<Piece>,
-    kind: Kind,
+    g: &Game,
+    depth: Option<u32>,
     claims: &[Claim],
 ) -> Result<(), Memory>
     requires claims { length claims.now ≤ MAX_CLAIMS }
     requires nodes { All (λ claim. length claim.nodes ≤ MAX_CLAIM_NODES) claims.now }
     ensures { OnOk result
-        (pieces.new.items ≡ pieces.old.items ++ entries_pieces kind claims.now) }
+        (pieces.new.items ≡ pieces.old.items ++ entries_pieces g.now depth claims.now) }
 {
     for i in 0..claims.len() {
-        push_entry_at(alloc, pieces, kind, claims, i)?;
+        push_entry_at(alloc, pieces, g, depth, claims, i)?;
     }
     Ok(())
+}
+
+/// How many moves a book shows.
+fn depth_words(alloc: Global, moves: u32) -> Result<Text, Memory>
+    ensures { IfOk result (λ text. text ≡ depth_words moves) }
+{
+    let mut words = String::new(alloc);
+    write!(
+        words,
+        "Moves shown: {moves}. Later positions are not in this file."
+    )?;
+    Ok(Text::from_string(words))
+}
+
+/// Adds how many moves a book shows, if it doesn't show all.
+pub(crate) fn push_depth(
+    alloc: Global,
+    pieces: &mut Vec<Piece>,
+    depth: Option<u32>,
+) -> Result<(), Memory>
+    ensures { OnOk result (pieces.new.items ≡ pieces.old.items ++ depth_pieces depth) }
+{
+    let Some(moves) = depth else {
+        return Ok(());
+    };
+    let words = depth_words(alloc, moves)?;
+    push_paragraph(alloc, pieces, words.as_str())
 }
 
 /// The attributes of the legend's section.

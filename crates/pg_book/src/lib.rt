@@ -13,6 +13,9 @@ mod sheet;
 
 pub use book::{print_book, push_html};
 pub use front::{LEGEND, MAX_SECTIONS, NOTHING_RUNS, TITLE, push_metas};
-pub use laws::{books_are_whole, links_lead_to_sections, nodes_have_pages, nodes_have_sections};
+pub use laws::{
+    books_are_whole, first_moves_are_shown, links_lead_to_sections, nodes_have_pages,
+    nodes_have_sections,
+};
 pub use sections::{page_attributes, push_heading};
 pub use sheet::STYLE;

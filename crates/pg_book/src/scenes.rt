@@ -45,6 +45,7 @@ fn page_look() -> Look
         legend: Legend::OfBody,
         size: None,
         blank: None,
+        layout: None,
     }
 }
 

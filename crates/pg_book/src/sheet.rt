@@ -10,7 +10,8 @@ use pg_picture::{Picture, Text, print_picture};
 use std::alloc::{AllocError, Global};
 
 /// The style sheet of a book but for its board: one section is shown at a time. If none is chosen,
-/// the first is shown, and all are printed. Pictures are light in dark pages too, as on paper.
+/// the first is shown, and all are printed. Pictures are light in dark pages too, as on paper. The
+/// frame of a cell is open at its upper left corner, where the cell's number is.
 pub const STYLE: &str = "
 :root{color-scheme:light dark;--back:#fff;--ink:#111;--link:#0645ad;--seen:#8a2f8a}
 @media (prefers-color-scheme:dark){:root{--back:#15181c;--ink:#e8e8e8;--link:#8ab4f8;
@@ -28,7 +29,8 @@ svg{width:100%;max-width:26rem;display:block;background:#fff bottom no-repeat;
 background-size:100% auto;border-radius:.3rem;print-color-adjust:exact;--link:#0645ad;
 --seen:#8a2f8a}
 rect,circle{stroke:#333;stroke-width:1}
-rect.reply{rx:5px}
+rect.reply{rx:5px;
+stroke-dasharray:0 18 4 3 4 3 4 3 4 3 4 3 4 3 4 3 4 3 4 3 4 3 4 3 4 3 4 3 4 3 4 3 4 3 4 3 4 3 0 20}
 line{fill:none;stroke:#333;stroke-width:2}
 text{font:11px sans-serif;text-anchor:middle;dominant-baseline:central;fill:#111}
 .free,.vertex{fill:#fff}
@@ -59,6 +61,7 @@ a:hover .reply{fill:#0645ad33}
 .mark{font-size:18px;font-weight:bold}
 .weight{font-size:13px;font-weight:bold}
 .corner{fill:#666;text-anchor:start}
+.heading{font-size:14px;text-anchor:start;dominant-baseline:hanging}
 .choice input{appearance:none;width:100%;height:100%;margin:0;cursor:pointer}
 .choice input:hover,.choice input:focus-visible{outline:3px solid var(--link);outline-offset:-4px}
 .chosen{display:none;pointer-events:none}

@@ -21,7 +21,7 @@ use Rattle.pg_picture.specs.declared.shape.Shape.{Shape}
 use Rattle.pg_picture.specs.declared.shape.Shape.TheVariants as shapes
 use Rattle.pg_places.specs.declared.measures.TheConstants.{CELL, HALF}
 use Rattle.pg_scene.specs.declared.board.Board.{Board}
-use Rattle.pg_scene.specs.declared.board.Board.TheVariants.{Graph, Grid, Ring}
+use Rattle.pg_scene.specs.declared.board.Board.TheVariants.{Graph, Grid, Laid, Ring}
 use Rattle.pg_book_parts.specs.Chapters.{has_page, link_by, link_pieces, number_text, page_id}
 use Rattle.pg_book_parts.specs.Chapters.{page_of}
 use Rattle.pg_book_parts.specs.Elements.{paragraph}
@@ -75,6 +75,7 @@ module _ (ok : Bytes → Type 0) where
   around-part (Grid width height) place = lone-part ok lone.Rect
       (worded names.Class (codes "reply") ∷ square_attributes SQUARE_HALF SQUARE_SIDE place) refl
   around-part (Ring points) place = circle-part (codes "reply") RING_RADIUS place
+  around-part (Laid chart) place = circle-part (codes "reply") RING_RADIUS place
   around-part (Graph vertices ends terminals bridge) place =
       circle-part (codes "reply") EDGE_RADIUS place
 

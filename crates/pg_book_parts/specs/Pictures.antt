@@ -25,7 +25,7 @@ use Rattle.pg_picture.specs.declared.shape.Place.{Place}
 use Rattle.pg_picture.specs.declared.shape.Shape.{Shape}
 use Rattle.pg_picture.specs.declared.shape.Shape.TheVariants as shapes
 use Rattle.pg_scene.specs.declared.board.Board.{Board}
-use Rattle.pg_scene.specs.declared.board.Board.TheVariants.{Graph, Grid, Ring}
+use Rattle.pg_scene.specs.declared.board.Board.TheVariants.{Graph, Grid, Laid, Ring}
 use Rattle.pg_book_parts.specs.Chapters.{has_page, page_id, page_of}
 use Rattle.pg_book_parts.specs.Elements.{element, labelled}
 use Rattle.pg_book_parts.specs.Layouts.{place_at}
@@ -90,6 +90,7 @@ clicked_pieces place = pieces.Lone lone.Rect
 abbrev pub around_pieces : Board → Place → List Piece
 around_pieces (Grid width height) place = clicked_pieces place
 around_pieces (Ring points) place = circle_pieces (codes "reply") RING_RADIUS place
+around_pieces (Laid chart) place = circle_pieces (codes "reply") RING_RADIUS place
 around_pieces (Graph vertices ends terminals bridge) place =
     circle_pieces (codes "reply") EDGE_RADIUS place
 

@@ -4,7 +4,7 @@ ghost use Rattle.pg_book_parts.specs.Layouts.{place_at};
 
 use pg_base::Kind;
 use pg_picture::Place;
-use pg_places::{Courses, place_on_grid, place_on_ring};
+use pg_places::{Courses, place_on_chart, place_on_grid, place_on_ring};
 use pg_scene::Board;
 
 /// What moves of a game are named and placed by.
@@ -26,6 +26,7 @@ impl Layout {
         match &self.board {
             Board::Grid { width, .. } => place_on_grid(*width, point),
             Board::Ring { points } => place_on_ring(*points, point),
+            Board::Laid { chart } => place_on_chart(chart, point),
             Board::Graph { .. } => self.courses.place_of(point),
         }
     }

@@ -103,7 +103,9 @@ fn push_around(
 {
     match board {
         Board::Grid { .. } => push_square(alloc, pieces, place),
-        Board::Ring { .. } => push_circle(alloc, pieces, "reply", RING_RADIUS, place),
+        Board::Ring { .. } | Board::Laid { .. } => {
+            push_circle(alloc, pieces, "reply", RING_RADIUS, place)
+        }
         Board::Graph { .. } => push_circle(alloc, pieces, "reply", EDGE_RADIUS, place),
     }
 }

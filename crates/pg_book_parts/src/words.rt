@@ -85,7 +85,7 @@ pub fn put_point(out: &mut String, layout: &Layout, point: u16) -> Result<(), Al
 {
     match &layout.board {
         Board::Grid { width, height } => put_cell(out, *width, *height, point),
-        Board::Ring { .. } => {
+        Board::Ring { .. } | Board::Laid { .. } => {
             write!(out, "point {point}")?;
             Ok(())
         }

@@ -1,17 +1,18 @@
 -- Points and vertices lie in the picture.
 use Rattle.std.proofs.Common.{◌≡◌, ℕ, zero, suc, ◌+◌, ◌*◌, ◌-◌, ◌/◌, ◌%◌, ◌<◌, ◌≤◌, List, [], ◌∷◌}
 use Rattle.std.proofs.Common.{inl, inr, arith, subst}
-use Rattle.std.specs.Prelude.{Option, Some, None, fold, max, nat_le, ◌==◌}
+use Rattle.std.specs.Prelude.{Option, Some, None, fold, max, nat_le, slice_get, ◌==◌}
 use Rattle.pg_draw.proofs.Common.{div-lt_iff_lt-mul, mul_comm, cases_Bool, nat_tests, mod_below}
-use Rattle.pg_draw.proofs.Common.{Place, IsBoard, points_on, vertices_on, Board, Grid, Ring, Graph}
+use Rattle.pg_draw.proofs.Common.{Place, IsBoard, points_on, vertices_on, Board, Grid, Ring, Laid}
+use Rattle.pg_draw.proofs.Common.{Graph, Spot, place_on_chart, spot_or_corner, spots_of}
 use Rattle.pg_draw.proofs.Common.{Look, Scene, farther, place_of_edge, at, column_of, columns_of}
 use Rattle.pg_draw.proofs.Common.{part_of}
 use Rattle.pg_draw.proofs.Common.{place_by, place_on_bridge, place_on_circle, place_on_grid}
-use Rattle.pg_draw.proofs.Common.{place_on_ring, radius_of, row_of, Course, HALF, MARGIN}
+use Rattle.pg_draw.proofs.Common.{place_on_ring, radius_of, row_of, CELL, Course, HALF, MARGIN}
 use Rattle.pg_draw.proofs.Common.{MAX_ON_RING, ROW, TOP}
 use Rattle.pg_draw.specs.Laws.{IsInside, IsUpTo, vertex_place}
 use Rattle.pg_draw.specs.Pictures.{bridge_reach, circle_reach, far_corner, height_of, picture_of}
-use Rattle.pg_draw.specs.Pictures.{reach_by, reach_of, row_reach, width_of}
+use Rattle.pg_draw.specs.Pictures.{reach_by, reach_of, row_reach, spot_farther, width_of}
 use Rattle.pg_draw.specs.Sheets.{boards_of, columns_for, rows_for}
 use Rattle.pg_draw.specs.Shapes.{courses_of, place_of}
 use Rattle.pg_places.proofs.Circles.{part_fits, place_in}
@@ -75,6 +76,32 @@ ring_inside points v lt =
       | inl few ↦ rw few (circle_inside points v)
       | inr many ↦ rw many (cell_inside ROW (points / ROW + 1) v (omega arith) (omega arith))
     ]
+
+-- ---- layouts
+
+-- a point of a layout, where others reach so far
+spot_inside : (spots : List Spot) (far : Place) (v : ℕ)
+    → MARGIN + CELL ≤ far.across
+    → TOP + CELL ≤ far.down
+    → ((spot_or_corner (slice_get spots v)).across + HALF
+    ≤ (fold spot_farther far spots).across)
+    × ((spot_or_corner (slice_get spots v)).down + HALF ≤ (fold spot_farther far spots).down)
+    × (far.across ≤ (fold spot_farther far spots).across)
+    × (far.down ≤ (fold spot_farther far spots).down)
+spot_inside [] far v wide high =
+    (omega (arith, wide), omega (arith, high), omega arith, omega arith)
+spot_inside (s ∷ spots) far zero wide high =
+    let rest = spot_inside spots (spot_farther far s) zero (omega (arith, wide))
+    (omega (arith, high)) in
+    let across = rest.2 in
+    let down = rest.3 in
+    (omega (arith, across), omega (arith, down), omega (arith, across), omega (arith, down))
+spot_inside (s ∷ spots) far (suc v) wide high =
+    let rest = spot_inside spots (spot_farther far s) v (omega (arith, wide))
+    (omega (arith, high)) in
+    let across = rest.2 in
+    let down = rest.3 in
+    (rest.0, rest.1, omega (arith, across), omega (arith, down))
 
 -- ---- edges
 
@@ -159,6 +186,10 @@ point_inside (Grid width height) courses v lt =
     further (Grid width height) courses (place_on_grid width v) (grid_inside width height v lt)
 point_inside (Ring points) courses v lt =
     further (Ring points) courses (place_on_ring points v) (ring_inside points v lt)
+point_inside (Laid chart) courses v lt =
+    let inside = spot_inside (spots_of chart) (at (MARGIN + CELL) (TOP + CELL)) v (omega arith)
+    (omega arith) in
+    further (Laid chart) courses (place_on_chart chart v) (inside.0, inside.1)
 point_inside (Graph vertices ends terminals bridge) courses v lt =
     let edge = edge_inside courses (at 0 0) v in
     let some = reach_some vertices bridge in
@@ -183,6 +214,7 @@ vertex_up : (board : Board) (courses : List Course) (u : ℕ)
     → IsUpTo (far_corner board courses) (vertex_place board u)
 vertex_up (Grid width height) courses u fits lt = absurd (omega arith)
 vertex_up (Ring points) courses u fits lt = absurd (omega arith)
+vertex_up (Laid chart) courses u fits lt = absurd (omega arith)
 vertex_up (Graph vertices ends terminals bridge) courses u fits lt =
     further (Graph vertices ends terminals bridge) courses (place_by vertices bridge u u)
     (by_inside vertices ends terminals bridge u fits lt)

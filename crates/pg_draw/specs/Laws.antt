@@ -2,8 +2,8 @@
 use Rattle.std.specs.Prelude.{◌≡◌, ℕ, ◌+◌, ◌≤◌, List, ◌∷◌, ◌++◌}
 use Rattle.std.specs.List.{flat_map}
 use Rattle.pg_picture.specs.declared.paint.Paint.TheVariants as paints
-use Rattle.pg_draw.specs.Prelude.{Picture, Place, Shape, Words, Board, Grid, Ring, Graph, Item}
-use Rattle.pg_draw.specs.Prelude.{Look, Scene, at, place_of_end, HALF, MARGIN, TOP}
+use Rattle.pg_draw.specs.Prelude.{Picture, Place, Shape, Words, Board, Grid, Ring, Laid, Graph}
+use Rattle.pg_draw.specs.Prelude.{Item, Look, Scene, at, place_of_end, HALF, MARGIN, TOP}
 use Rattle.pg_draw.specs.Pictures.{far_corner, legend_shapes, picture_of}
 use Rattle.pg_draw.specs.Shapes.{courses_of, item_shapes, plan_of, vertices_shapes}
 use Rattle.pg_draw.specs.declared.measures.TheConstants.{HEADING_DOWN}
@@ -39,5 +39,6 @@ IsInside picture place = IsUpTo (at picture.width picture.height) place
 abbrev pub vertex_place : Board → ℕ → Place
 vertex_place (Grid width height) vertex = at MARGIN TOP
 vertex_place (Ring points) vertex = at MARGIN TOP
+vertex_place (Laid chart) vertex = at MARGIN TOP
 vertex_place (Graph vertices ends terminals bridge) vertex =
     place_of_end (plan_of vertices bridge) vertex vertex

@@ -4,7 +4,8 @@ use Rattle.std.specs.Prelude.{◌∷◌}
 use Rattle.std.specs.Prelude.{◌++◌, length, Option, Some, None, fold}
 use Rattle.std.specs.List.{flat_map}
 use Rattle.pg_picture.specs.declared.paint.Paint.TheVariants as paints
-use Rattle.pg_draw.specs.Prelude.{Picture, Place, Shape, Words, Board, Grid, Ring, Graph, Scene}
+use Rattle.pg_draw.specs.Prelude.{Picture, Place, Shape, Words, Board, Grid, Ring, Laid, Graph}
+use Rattle.pg_draw.specs.Prelude.{Scene, Spot, place_of_spot, spots_of}
 use Rattle.pg_draw.specs.Prelude.{farthest, at, columns_of, radius_of, Course, APART, CELL, HALF}
 use Rattle.pg_draw.specs.Prelude.{Look, MARGIN, MAX_ON_RING, ROW, TOP, Plan}
 use Rattle.pg_draw.specs.Shapes.{courses_of, item_shapes, plan_of, vertices_shapes}
@@ -36,11 +37,20 @@ plan_reach plan = reach_by plan.vertices plan.bridge
 unfoldable pub row_reach : ℕ → ℕ → Place
 row_reach width height = at (MARGIN + CELL * width) (TOP + CELL * height)
 
+-- the points of a layout: the farther of both, in either direction
+abbrev pub spot_farther : Place → Spot → Place
+spot_farther far s = at (max far.across ((place_of_spot s).across + HALF))
+    (max far.down ((place_of_spot s).down + HALF))
+
+abbrev pub chart_reach : List Spot → Place
+chart_reach spots = fold spot_farther (at (MARGIN + CELL) (TOP + CELL)) spots
+
 -- the cells, discs or vertices of a board
 abbrev pub reach_of : Board → Place
 reach_of (Grid width height) = row_reach width height
 reach_of (Ring points) =
     if nat_le points MAX_ON_RING then circle_reach points else row_reach ROW (points / ROW + 1)
+reach_of (Laid chart) = chart_reach (spots_of chart)
 reach_of (Graph vertices ends terminals bridge) = plan_reach (plan_of vertices bridge)
 
 -- a board with its edges

@@ -8,6 +8,7 @@ use Rattle.pg_base.specs.declared.side.Side.TheVariants.{X, Y}
 use Rattle.pg_picture.specs.declared.paint.Paint.{Paint}
 use Rattle.pg_picture.specs.declared.paint.Paint.TheVariants as paints
 use Rattle.pg_draw.specs.Prelude.{Place, Shape, Square, Disc, Stroke, Bow, Words, Board, Grid, Ring}
+use Rattle.pg_draw.specs.Prelude.{Laid, place_on_chart}
 use Rattle.pg_draw.specs.Prelude.{Graph, Item, bend_of, courses_behind, have_same_ends, middle_of}
 use Rattle.pg_draw.specs.Prelude.{place_of_edge, at, lower, lower_right, place_of_end}
 use Rattle.pg_draw.specs.Prelude.{place_on_bridge, place_on_grid, place_on_ring, upper_left}
@@ -64,12 +65,14 @@ plan_of vertices bridge = record { vertices = vertices; bridge = bridge }
 abbrev pub courses_of : Board → List Course
 courses_of (Grid width height) = []
 courses_of (Ring points) = []
+courses_of (Laid chart) = []
 courses_of (Graph vertices ends terminals bridge) = courses_behind (plan_of vertices bridge) [] ends
 
 -- the place of a point: the middle of its cell, of its disc, or of its edge
 abbrev pub place_of : Board → List Course → ℕ → Place
 place_of (Grid width height) courses point = place_on_grid width point
 place_of (Ring points) courses point = place_on_ring points point
+place_of (Laid chart) courses point = place_on_chart chart point
 place_of (Graph vertices ends terminals bridge) courses point = place_of_edge courses point
 
 -- ---- words
@@ -139,6 +142,8 @@ point_shapes numbers (Grid width height) courses point mark =
     cell_shapes numbers (place_on_grid width point) point mark
 point_shapes numbers (Ring points) courses point mark =
     disc_shapes numbers (place_on_ring points point) point mark
+point_shapes numbers (Laid chart) courses point mark =
+    disc_shapes numbers (place_on_chart chart point) point mark
 point_shapes numbers (Graph vertices ends terminals bridge) courses point mark =
     edge_shapes numbers courses point (edge_paint mark)
 
@@ -185,6 +190,8 @@ member_shapes numbers (Grid width height) courses point set =
     Disc (place_on_grid width point) MEMBER_RADIUS (set_paint set) ∷ []
 member_shapes numbers (Ring points) courses point set =
     Disc (place_on_ring points point) MEMBER_RADIUS (set_paint set) ∷ []
+member_shapes numbers (Laid chart) courses point set =
+    Disc (place_on_chart chart point) MEMBER_RADIUS (set_paint set) ∷ []
 member_shapes numbers (Graph vertices ends terminals bridge) courses point set =
     edge_shapes numbers courses point (set_paint set)
 
@@ -201,6 +208,7 @@ further_edge_shapes plan ends terminals set =
 abbrev pub extra_shapes : Board → Set → List Shape
 extra_shapes (Grid width height) set = []
 extra_shapes (Ring points) set = []
+extra_shapes (Laid chart) set = []
 extra_shapes (Graph vertices ends terminals bridge) set = if length terminals == 2
     then further_edge_shapes (plan_of vertices bridge) ends (
       slice_index terminals 0,
@@ -221,6 +229,7 @@ badge_shapes place number paint =
 abbrev pub part_shapes : Board → ℕ → ℕ → List Shape
 part_shapes (Grid width height) vertex part = []
 part_shapes (Ring points) vertex part = []
+part_shapes (Laid chart) vertex part = []
 part_shapes (Graph vertices ends terminals bridge) vertex part =
     badge_shapes (place_of_end (plan_of vertices bridge) vertex vertex) part (pair_paint part)
 
@@ -235,6 +244,8 @@ reached_shapes (Grid width height) courses point child paint =
     ring_shapes (place_on_grid width point) CHILD_RADIUS NOTE_DOWN child paint
 reached_shapes (Ring points) courses point child paint =
     ring_shapes (place_on_ring points point) CHILD_RADIUS NOTE_DOWN child paint
+reached_shapes (Laid chart) courses point child paint =
+    ring_shapes (place_on_chart chart point) CHILD_RADIUS NOTE_DOWN child paint
 reached_shapes (Graph vertices ends terminals bridge) courses point child paint =
     ring_shapes (place_of_edge courses point) EDGE_CHILD_RADIUS EDGE_NOTE_DOWN child paint
 
@@ -291,5 +302,6 @@ vertex_shapes numbers plan terminals vertex =
 abbrev pub vertices_shapes : Bool → Board → List Shape
 vertices_shapes numbers (Grid width height) = []
 vertices_shapes numbers (Ring points) = []
+vertices_shapes numbers (Laid chart) = []
 vertices_shapes numbers (Graph vertices ends terminals bridge) =
     flat_map (vertex_shapes numbers (plan_of vertices bridge) terminals) (range_with_len 0 vertices)

@@ -5,7 +5,7 @@ ghost use Rattle.pg_draw.specs.Shapes.{courses_of, place_of};
 
 use pg_base::Memory;
 use pg_picture::Place;
-use pg_places::{Courses, MAX_MIDDLE_REACH, Plan, place_on_grid, place_on_ring};
+use pg_places::{Courses, MAX_MIDDLE_REACH, Plan, place_on_chart, place_on_grid, place_on_ring};
 use pg_scene::Board;
 use std::alloc::Global;
 
@@ -39,6 +39,7 @@ pub(crate) fn place_of(board: &Board, courses: &Courses, point: u16) -> Place
     match board {
         Board::Grid { width, .. } => place_on_grid(*width, point),
         Board::Ring { points } => place_on_ring(*points, point),
+        Board::Laid { chart } => place_on_chart(chart, point),
         Board::Graph { .. } => courses.place_of(point),
     }
 }

@@ -310,7 +310,7 @@ fn push_reached(
         Board::Grid { .. } => {
             push_ring(alloc, shapes, place, CHILD_RADIUS, NOTE_DOWN, child, paint)
         }
-        Board::Ring { .. } => {
+        Board::Ring { .. } | Board::Laid { .. } => {
             push_ring(alloc, shapes, place, CHILD_RADIUS, NOTE_DOWN, child, paint)
         }
         Board::Graph { .. } => push_ring(

@@ -173,7 +173,9 @@ pub(crate) fn push_point(
     let place = place_of(board, courses, point);
     match board {
         Board::Grid { .. } => push_cell(alloc, shapes, numbers, place, point, mark),
-        Board::Ring { .. } => push_disc(alloc, shapes, numbers, place, point, mark),
+        Board::Ring { .. } | Board::Laid { .. } => {
+            push_disc(alloc, shapes, numbers, place, point, mark)
+        }
         Board::Graph { .. } => {
             push_edge(alloc, shapes, numbers, courses, point, edge_paint(mark))
         }

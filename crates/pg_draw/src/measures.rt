@@ -100,7 +100,7 @@ pub(crate) const CROSS_TOP: u32 = 22;
 pub(crate) const CROSS_BOTTOM: u32 = 34;
 
 /// Both numbers of the corner of a board without its edges are below this.
-pub(crate) const MAX_BOARD_REACH: u32 = 100_000;
+pub(crate) const MAX_BOARD_REACH: u32 = 4_300_000;
 
 /// Both numbers of the corner of a board with its edges are below this.
 pub(crate) const MAX_CORNER_REACH: u32 = 4_400_000;

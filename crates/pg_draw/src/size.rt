@@ -2,16 +2,18 @@
 ghost use Rattle.std.specs.Prelude.{◌≡◌, ◌≤◌, ◌<◌};
 ghost use Rattle.pg_draw.specs.Prelude.{IsBoard, MAX_POINTS, MAX_VERTICES, MAX_BRIDGE_ROWS, IsPlan};
 ghost use Rattle.pg_draw.specs.Prelude.{IsWithin};
-ghost use Rattle.pg_draw.specs.Pictures.{bridge_reach, circle_reach, far_corner, plan_reach};
-ghost use Rattle.pg_draw.specs.Pictures.{reach_of, row_reach, text_width, widest};
+ghost use Rattle.pg_draw.specs.Pictures.{bridge_reach, chart_reach, circle_reach, far_corner};
+ghost use Rattle.pg_draw.specs.Pictures.{plan_reach, reach_of, row_reach, text_width, widest};
 
 use crate::measures::{
     LEGEND_LETTER, MAX_BOARD_REACH, MAX_CORNER_REACH, MAX_COUNTED_LETTERS, MAX_LETTER_WIDTH,
     MAX_TEXT_WIDTH,
 };
+use pg_layout::Spot;
 use pg_picture::Place;
 use pg_places::{
-    APART, CELL, Courses, HALF, MARGIN, MAX_ON_RING, Plan, ROW, TOP, columns_of, radius_of,
+    APART, CELL, Courses, HALF, MARGIN, MAX_ON_RING, Plan, ROW, TOP, columns_of, place_of_spot,
+    radius_of,
 };
 use pg_scene::{Board, Text};
 
@@ -68,6 +70,25 @@ fn row_reach(width: u32, height: u32) -> Place
     }
 }
 
+/// How far the points of a layout reach.
+fn chart_reach(spots: &[Spot]) -> Place
+    ensures place { result ≡ chart_reach spots.now }
+    ensures near { IsWithin MAX_BOARD_REACH result }
+{
+    let mut far = Place {
+        across: MARGIN + CELL,
+        down: TOP + CELL,
+    };
+    for spot in spots {
+        let place = place_of_spot(*spot);
+        far = Place {
+            across: far.across.max(place.across + HALF),
+            down: far.down.max(place.down + HALF),
+        };
+    }
+    far
+}
+
 /// How far a board's cells, discs or vertices reach.
 fn reach_of(board: &Board) -> Place
     requires { IsBoard board.now }
@@ -83,6 +104,7 @@ fn reach_of(board: &Board) -> Place
                 row_reach(ROW, *points / ROW + 1)
             }
         }
+        Board::Laid { chart } => chart_reach(chart.as_slice()),
         Board::Graph {
             vertices,
             bridge,

@@ -2,18 +2,21 @@
 use Rattle.std.proofs.Common.{◌+◌, ◌-◌, List, [], ◌∷◌, ◌++◌, length, get_or, take, Option, Some}
 use Rattle.std.proofs.lemmas.Grind.{take_at_read}
 use Rattle.std.proofs.lemmas.List.{take_all}
-use Rattle.std.proofs.Common.{◌≡◌, ◌∙◌, ℕ, ◌≤◌, ◌<◌, nat_lt, false, Result, Ok, Err, refl, sym, ap}
-use Rattle.std.proofs.Common.{subst, inl, inr, arith}
-use Rattle.pg_duel.proofs.Common.{Claim, ConsoleTold, Game, Goes, Illegal, Look, Memory, Note}
-use Rattle.pg_duel.proofs.Common.{Position, Reply, Side, Sitting, Stop, Turn, course_nothing}
-use Rattle.pg_duel.proofs.Common.{judged_move}
-use Rattle.pg_duel.proofs.Common.{nat_tests, place, point_count, reason_of}
+use Rattle.std.proofs.lemmas.List.Elements.{All-get_or}
+use Rattle.std.proofs.lemmas.Option.{slice_get_cases}
+use Rattle.std.specs.List.{All}
+use Rattle.std.specs.Prelude.{IfSome}
+use Rattle.std.proofs.Common.{◌≡◌, ◌∙◌, ℕ, ◌≤◌, ◌<◌, nat_lt, false, Result, Err, refl, sym, ap}
+use Rattle.std.proofs.Common.{subst, inl, inr, arith, ◌⊎◌, None, slice_get}
+use Rattle.pg_duel.proofs.Common.{Claim, ConsoleTold, Game, Goes, Look, Memory, Reply, Side}
+use Rattle.pg_duel.proofs.Common.{Sitting, Stop, Turn, nat_tests, point_count}
 use Rattle.pg_game.specs.declared.position.Illegal.TheVariants.{Range}
 use Rattle.pg_messages.specs.declared.message.ReplyFault.TheVariants as faults
 use Rattle.pg_playing.specs.declared.note.Note.TheVariants.{Refused}
 use Rattle.pg_table.specs.declared.reply.Reply.TheVariants as reply
 use Rattle.pg_duel.specs.Prelude.{IsAfter}
 use Rattle.pg_duel.specs.DuelLog.{Acts, Follows, Notes, Shows, Stage, Steps}
+use Rattle.pg_duel.specs.Words.{last_of}
 
 -- memory ran out, and nothing was printed
 pub starves : {T : Type 0} (look : Look) (g : Game) (c : Claim) (a b : ConsoleTold) (s : Sitting)
@@ -85,3 +88,15 @@ pub chosen_same : (f : Side → Option Claim) (s t : Side) (a b : Claim)
     → a ≡ b
 chosen_same f s t a b same one other =
     let both : ◌≡◌ {A = Option Claim} (Some a) (Some b) = sym one ∙ ap f same ∙ other in cc
+
+-- the last of these points is one of them
+pub last_within : (P : ℕ → Type 0) (points : List ℕ) → All P points → IfSome (last_of points) P
+last_within P points all = go (slice_get_cases points (length points - 1)).1 where
+  go : ((x : ℕ) × (length points - 1 < length points)
+      × (slice_get points (length points - 1) ≡ Some x)
+      × (get_or points (length points - 1) x ≡ x))
+      ⊎ ((length points ≤ length points - 1) × (slice_get points (length points - 1) ≡ None))
+      → IfSome (slice_get points (length points - 1)) P
+  go (inl (x, within, is, at)) =
+      rw is (subst P at (All-get_or P points (length points - 1) x within all))
+  go (inr (past, is)) = rw is tt

@@ -1,15 +1,12 @@
 -- Parts of a log, put together.
-use Rattle.std.proofs.Common.{◌≡◌, ◌∙◌, ℕ, ◌+◌, ◌<◌, ◌≤◌, nat_lt, Bool, true, false, List, ◌∷◌}
-use Rattle.std.proofs.Common.{Option, Some, None, Result, Ok, Err, refl, sym, ap, subst, inl, inr}
-use Rattle.std.proofs.Common.{arith, if◌then◌else◌}
+use Rattle.std.proofs.Common.{◌≡◌, ◌∙◌, ℕ, ◌+◌, ◌<◌, nat_lt, Bool, true, false, Option, Some, None}
+use Rattle.std.proofs.Common.{Result, Ok, Err, refl, sym, subst, inl, inr, arith, if◌then◌else◌}
 use Rattle.std.specs.Prelude.{IfOk, IfSome}
 use Rattle.pg_duel.proofs.Common.{Breaks, Bytes, Claim, ConsoleTold, Course, Game, Goes, Heard}
-use Rattle.pg_duel.proofs.Common.{Look, MAX_HEARD, Memory, Position, Reply, Score, Sitting, Stop}
-use Rattle.pg_duel.proofs.Common.{Turn}
+use Rattle.pg_duel.proofs.Common.{Look, MAX_HEARD, Position, Score, Sitting, Stop, Turn}
 use Rattle.pg_duel.proofs.Common.{breaks_then, course_nothing, course_then, goes_then, is_over}
-use Rattle.pg_duel.proofs.Common.{nat_tests, outcome, place, reaches, read_reply, sitting_of}
-use Rattle.pg_duel.proofs.Common.{trimmed}
-use Rattle.pg_duel.specs.DuelLog.{Acts, Follows, Listens, Shows, Stage, Stalls, Steps, after_answer}
+use Rattle.pg_duel.proofs.Common.{nat_tests, outcome, reaches, read_reply, sitting_of, trimmed}
+use Rattle.pg_duel.specs.DuelLog.{Acts, Listens, Shows, Stage, Stalls, Steps, after_answer}
 use Rattle.pg_duel.specs.DuelLog.{after_shown}
 use Rattle.pg_duel.specs.Seats.{Holds, Keeps, Sits, Stays}
 use Rattle.pg_playing.specs.declared.dialogue.Turn.TheVariants as turns

@@ -1,30 +1,21 @@
 -- What a game against the program does, put together.
-use Rattle.std.proofs.Common.{◌≡◌, ◌∙◌, ℕ, List, [], ◌++◌, append-nil, Option, Some, None, Result}
-use Rattle.std.proofs.Common.{Ok, Err, refl, sym, ap, subst, inl, inr}
-use Rattle.std.specs.Prelude.{IfErr, IfOk, IfSome, ⊤}
-use Rattle.pg_duel.proofs.Common.{Breaks, Bytes, Changes, Claim, ConsoleTold, Course, DONE, Does}
-use Rattle.pg_duel.proofs.Common.{Done}
-use Rattle.pg_duel.proofs.Common.{End, Entry, Evidence, Failed, FilesTold, Finished, FollowsOn}
-use Rattle.pg_duel.proofs.Common.{Game}
-use Rattle.pg_duel.proofs.Common.{Grows-then, Halt, Holding, Look, Memory, QuietsBy, Read, Refusal}
-use Rattle.pg_duel.proofs.Common.{Refused, Runs, Side, Sitting, Starved, Stop, Stopped, Stops}
-use Rattle.pg_duel.proofs.Common.{Stores}
-use Rattle.pg_duel.proofs.Common.{Write, after_log, hears_then, kept, not_opened_two, opened_two}
-use Rattle.pg_duel.proofs.Common.{runs_halt, silent, stop_end, talk}
+use Rattle.std.proofs.Common.{◌≡◌, ℕ, Option, Some, None, Result}
+use Rattle.std.proofs.Common.{Ok, Err, refl, sym, subst, inl, inr}
+use Rattle.std.specs.Prelude.{IfSome, ⊤}
+use Rattle.pg_duel.proofs.Common.{Bytes, ConsoleTold, Done, End, Evidence, FilesTold, Finished}
+use Rattle.pg_duel.proofs.Common.{FollowsOn, Game, Halt, Holding, Look, Memory, QuietsBy, Read}
+use Rattle.pg_duel.proofs.Common.{Refusal, Refused, Runs, Side, Starved, Stopped, Write, kept}
+use Rattle.pg_duel.proofs.Common.{not_opened_two, opened_two, runs_halt, silent, stop_end}
 use Rattle.pg_files.specs.GameFile.{Entry as GameEntry}
 use Rattle.pg_playing.specs.Playing.{GivesTable}
-use Rattle.pg_sessions.specs.Course.{LeadsBy}
 use Rattle.pg_evidence.specs.Evidence.{IsInnerHalt}
 use Rattle.pg_evidence.specs.Standing.{MakesStanding}
 use Rattle.pg_messages.specs.declared.refusal.Refusal.TheVariants as refusals
 use Rattle.pg_talk.specs.Done.{nothing}
 use Rattle.pg_talk.specs.Halts.{BothCauses, IsPlayHalt, IsReadHalt}
 use Rattle.pg_talk.proofs.Speaking.{Grows-nothing}
-use Rattle.pg_duel.specs.DuelLog.{Closes, Shows, Steps}
-use Rattle.pg_duel.specs.Dueling.{Closed, Duels, GivesDuel, IsCutShort, OpensBoth, PlaysBy}
-use Rattle.pg_duel.specs.Dueling.{PlaysSeat}
+use Rattle.pg_duel.specs.Dueling.{Duels, GivesDuel, OpensBoth, PlaysBy}
 use Rattle.pg_duel.specs.Dueling.{Refuses, RefusesBy, RunsOn, both_held, pair_entry}
-use Rattle.pg_duel.specs.Seats.{Holds}
 use Rattle.pg_duel.specs.Prelude.{turned_to}
 
 -- ---- work that does or refuses in one way does so in another
@@ -77,126 +68,6 @@ starves_now Against Act files console = go files.held refl where
     inl (refl, refl),
     record { talked = silent Starved console console refl refl; names = kept held files.held is },
   )
-
--- ---- a game that has ended or was left, and then its record
-
-module _ (look : Look) (g : Game) (c : Claim) (s : Sitting) (path : Option Bytes)
-    (files files' : FilesTold) (before mid after : ConsoleTold) (final : Sitting)
-    (holds : Holds g c final)
-    (course : Course (Steps look g c) before mid (Shows s 0) (Closes final)) where
-  joined : (held : Holding) (part : Done) (end : End)
-      → Changes held files' mid after part end
-      → Changes held files' before after (after_log course.entries part) end
-  joined held part end changes = record {
-    talked = record {
-      logged = Grows-then before.log mid.log after.log course.entries part.entries course.log
-          changes.talked.logged;
-      heard = hears_then 0 end before.left mid.left after.left course.entries part.entries
-          course.input changes.talked.heard;
-    };
-    names = changes.names;
-  }
-
-  closed : (part : Done) (end : End)
-      → Stores path g final.events part end
-      → Closed look g c s path (after_log course.entries part) end
-  closed part end stores = record {
-    entries = course.entries;
-    final = final;
-    log = course.leads;
-    holds = holds;
-    last = part;
-    stores = stores;
-    same = refl;
-  }
-
-  -- nothing was done at the end
-  unclosed : (part : Done)
-      → part.entries ≡ []
-      → part.stored ≡ []
-      → IsCutShort look g c s (after_log course.entries part)
-  unclosed part said stored = (
-    (
-      Closes final,
-      subst (λ (es : List Entry). LeadsBy (Steps look g c) (Shows s 0) es (Closes final))
-          (sym (ap (λ (es : List Entry). course.entries ++ es) said ∙ append-nil course.entries))
-          course.leads,
-    ),
-    stored,
-  )
-
-  stopped : (stop : Stop) (part : Done)
-      → Stops (Stores path g final.events) part (stop_end stop)
-      → PlaysSeat look g c s path (after_log course.entries part) (stop_end stop)
-  stopped Read part (inl none) = inl (unclosed part none.0 none.1)
-  stopped Read part (inr act) = inr (closed part Failed act)
-  stopped Write part (inl none) = inl (unclosed part none.0 none.1)
-  stopped Write part (inr act) = inr (closed part Failed act)
-  stopped Memory part (inl none) = inl (unclosed part none.0 none.1)
-  stopped Memory part (inr act) = inr (closed part Starved act)
-
-  -- the record was stored, if there is a path for it
-  pub seat_closed : (r : Result ℕ Halt)
-      → Does (Stores path g final.events) files files' mid after r
-      → Does (PlaysSeat look g c s path) files files' before after r
-  seat_closed r does = go files.held r does where
-    go : (h : Option Holding) (r : Result ℕ Halt)
-        → IfSome h
-        (λ held. FollowsOn (λ _. ⊥) (Stores path g final.events) held files' mid after r)
-        → IfSome h
-        (λ held. FollowsOn (λ _. ⊥) (PlaysSeat look g c s path) held files' before after r)
-    go None r does = tt
-    go (Some held) (Ok status) (part, act, changes) = (
-      after_log course.entries part,
-      closed part (Finished status) act,
-      joined held part (Finished status) changes,
-    )
-    go (Some held) (Err (Refused refusal)) (none, changes) = absurd none
-    go (Some held) (Err (Stopped stop)) (part, how, changes) = (
-      after_log course.entries part,
-      inr (stopped stop part how),
-      joined held part (stop_end stop) changes,
-    )
-
--- ---- a game that was stopped
-
-module _ (look : Look) (g : Game) (c : Claim) (s : Sitting) (path : Option Bytes)
-    (files : FilesTold) (before after : ConsoleTold) where
-  pub seat_broken : (stop : Stop)
-      → Breaks (Steps look g c) before after (Shows s 0) stop
-      → Does (PlaysSeat look g c s path) files files before after (Err (Stopped stop))
-  seat_broken stop broken = go files.held refl stop broken where
-    go : (h : Option Holding)
-        → files.held ≡ h
-        → (stop : Stop) → Breaks (Steps look g c) before after (Shows s 0) stop
-        → IfSome h
-        (λ held. FollowsOn (λ _. ⊥) (PlaysSeat look g c s path) held files before after
-        (Err (Stopped stop)))
-    go None is stop broken = tt
-    go (Some held) is Read (unread, t, course) = (
-      talk course.entries,
-      inr (inl ((t, course.leads), refl)),
-      record {
-        talked = record { logged = course.log; heard = (unread, course.input) };
-        names = kept held files.held is;
-      },
-    )
-    go (Some held) is Write (unread, t, course) = (
-      talk course.entries,
-      inr (inl ((t, course.leads), refl)),
-      record {
-        talked = record { logged = course.log; heard = (unread, course.input) };
-        names = kept held files.held is;
-      },
-    )
-    go (Some held) is Memory (t, course) = (
-      talk course.entries,
-      inr (inl ((t, course.leads), refl)),
-      record {
-        talked = record { logged = course.log; heard = course.input };
-        names = kept held files.held is;
-      },
-    )
 
 -- ---- the call
 
@@ -285,15 +156,6 @@ pub table_gives : (r : Result ℕ Halt) → GivesTable r → GivesDuel r
 table_gives (Ok status) gives = gives
 table_gives (Err (Refused refusal)) gives = absurd gives
 table_gives (Err (Stopped stop)) gives = tt
-
-pub table_quiet : (before after : ConsoleTold) (r : Result ℕ Halt)
-    → GivesTable r
-    → QuietsBy ⊤ ⊤ before after r
-table_quiet before after (Ok status) gives = tt
-table_quiet before after (Err (Refused refusal)) gives = absurd gives
-table_quiet before after (Err (Stopped Read)) gives = tt
-table_quiet before after (Err (Stopped Write)) gives = tt
-table_quiet before after (Err (Stopped Memory)) gives = tt
 
 -- ---- a certificate that stands for none
 

@@ -1,25 +1,26 @@
 -- THE LOG OF A GAME AGAINST THE PROGRAM: which entry may come next and where it leads. It is asked
 -- neither how the game is kept nor what keeps it.
 use Rattle.std.specs.Prelude.{◌≡◌, ◌⊎◌, ℕ, ◌+◌, nat_lt, Bool, if◌then◌else◌, List, [], ◌∷◌, ◌++◌}
-use Rattle.std.specs.Prelude.{Result, Err}
-use Rattle.pg_duel.specs.Prelude.{Answered, Claim, ConsoleTold, Course, Ended, Entry, Game}
-use Rattle.pg_duel.specs.Prelude.{Goes, Heard, Illegal, IsAfter, LeadsBy, Look, MAX_HEARD, Memory}
-use Rattle.pg_duel.specs.Prelude.{Note, Reply, Said, Sitting, Skipped, Stop, Turn, answer_text}
-use Rattle.pg_duel.specs.Prelude.{ending_of, is_over, judged_move, note_of_lines, place, read_reply}
-use Rattle.pg_duel.specs.Prelude.{reason_of, trimmed}
+use Rattle.std.specs.Prelude.{Result, Err, codes}
+use Rattle.pg_duel.specs.Prelude.{Answered, Claim, ConsoleTold, Ended, Entry, Game, Goes, Heard}
+use Rattle.pg_duel.specs.Prelude.{Illegal, IsAfter, Look, MAX_HEARD, Memory, Note, Reply, Said}
+use Rattle.pg_duel.specs.Prelude.{Sitting, Skipped, Stop, Turn, ending_of, is_over, judged_move}
+use Rattle.pg_duel.specs.Prelude.{note_of_lines, place, read_reply, reason_of, trimmed}
 use Rattle.pg_messages.specs.declared.message.ReplyFault.TheVariants as faults
 use Rattle.pg_playing.specs.declared.dialogue.Turn.TheVariants as turns
 use Rattle.pg_playing.specs.declared.note.Note.TheVariants as notes
 use Rattle.pg_table.specs.declared.reply.Reply.TheVariants as reply
-use Rattle.pg_duel.specs.Words.{seat_text}
+use Rattle.pg_duel.specs.Words.{reply_text, seat_text}
 
 -- where a log is, with what was played, and after so many lines: the board is to be shown; a line
--- is to be heard; an answer that changes nothing is to be printed; the game has ended or is left;
--- or a line was heard, and memory ran out before it was answered
+-- is to be heard; an answer that changes nothing is to be printed; the input has ended, and the
+-- prompt's line is to be ended; the game has ended or is left; or a line was heard, and memory ran
+-- out before it was answered
 pub data Stage : Type 0 where
   Shows : (s : Sitting) (heard : ℕ) → Stage
   Listens : (s : Sitting) (heard : ℕ) → Stage
   Notes : (s : Sitting) (heard : ℕ) (note : Note) → Stage
+  Leaves : (s : Sitting) → Stage
   Closes : (s : Sitting) → Stage
   Stalls : (s : Sitting) → Stage
 
@@ -54,6 +55,7 @@ Follows g c s heard reply.Undo next = Undoes g c s heard next
 Follows g c s heard (reply.Lines through) next = next ≡ Notes s heard (note_of_lines g through)
 Follows g c s heard reply.Help next = next ≡ Notes s heard notes.Help
 Follows g c s heard reply.Quit next = next ≡ Closes s
+Follows g c s heard reply.NoCell next = next ≡ Notes s heard (notes.Refused faults.NoPoint)
 Follows g c s heard reply.Unclear next = next ≡ Notes s heard (notes.Refused faults.NoNumber)
 
 -- ---- the log
@@ -68,14 +70,11 @@ Steps look g c (Listens s heard) (Heard line) next =
     Follows g c s (heard + 1) (read_reply g.field (trimmed line)) next ⊎ (next ≡ Stalls s)
 Steps look g c (Listens s heard) (Skipped line) next =
     next ≡ Notes s (heard + 1) (notes.Refused faults.NoNumber)
-Steps look g c (Listens s heard) Ended next = next ≡ Closes s
+Steps look g c (Listens s heard) Ended next = next ≡ Leaves s
 Steps look g c (Notes s heard note) (Said text) next =
-    (text ≡ answer_text g (place g s.events) note) × (next ≡ after_answer s heard)
+    (text ≡ reply_text g (place g s.events) note) × (next ≡ after_answer s heard)
+Steps look g c (Leaves s) (Said text) next = (text ≡ codes "\n") × (next ≡ Closes s)
 Steps look g c stage entry next = ⊥
-
--- the entries are the log of a game by the claim that began so, as far as this stage
-abbrev pub IsLogTo : Look → Game → Claim → Sitting → List Entry → Stage → Type 0
-IsLogTo look g c s entries stage = LeadsBy (Steps look g c) (Shows s 0) entries stage
 
 -- ---- what the code does line by line
 

@@ -1,14 +1,13 @@
 -- What playing a game against the program does.
-use Rattle.std.specs.Prelude.{◌≡◌, ◌⊎◌, ℕ, List, [], Option, Some, None, Result, Ok, Err, IfSome, ⊤}
-use Rattle.pg_duel.specs.Prelude.{Begins, Bytes, Cert, Claim, ConsoleTold, DONE, Done, End, Entry}
-use Rattle.pg_duel.specs.Prelude.{Evidence, Failed, FilesTold, Finished, FollowsOn, Game, Halt}
-use Rattle.pg_duel.specs.Prelude.{Holding, IsLackingTwo, IsSaidBy, IsValid, Look, NoClaim, OpensTwo}
-use Rattle.pg_duel.specs.Prelude.{Refusal, Refused, RejectsEvidence, Side, Sitting, StandsFor}
-use Rattle.pg_duel.specs.Prelude.{Starved, Stores, after_log, both, chosen_claim, entry}
-use Rattle.pg_duel.specs.Prelude.{evidence_held, game_held, turned_to}
+use Rattle.std.specs.Prelude.{◌≡◌, ◌⊎◌, ℕ, List, Option, Some, None, Result, Ok, Err, IfSome}
+use Rattle.pg_duel.specs.Prelude.{Begins, Bytes, Cert, Claim, ConsoleTold, DONE, Done, End, Event}
+use Rattle.pg_duel.specs.Prelude.{Evidence, FilesTold, FollowsOn, Game, Halt, Holding, IsLackingTwo}
+use Rattle.pg_duel.specs.Prelude.{IsSaidBy, IsValid, Look, NoClaim, OpensTwo, PlaysLog, Refusal}
+use Rattle.pg_duel.specs.Prelude.{Refused, RejectsEvidence, Side, Sitting, StandsFor, both}
+use Rattle.pg_duel.specs.Prelude.{chosen_claim, entry, evidence_held, game_held, turned_to}
 use Rattle.pg_files.specs.GameFile.{Entry as GameEntry}
 use Rattle.pg_talk.specs.Halts.{IsPlayHalt}
-use Rattle.pg_duel.specs.DuelLog.{Closes, IsLogTo, Stage}
+use Rattle.pg_duel.specs.DuelLog.{Closes, Shows, Stage, Steps}
 use Rattle.pg_duel.specs.Seats.{Holds}
 use Rattle.pg_duel.specs.Sides.{side_by}
 
@@ -56,31 +55,15 @@ Refuses turn asked (Ok pair) refusal =
 
 -- ---- what is done
 
--- the log of a game that began so is whole, the claim is held if the game is over, and then its
--- record was stored
-pub record Closed (look : Look) (g : Game) (c : Claim) (s : Sitting) (path : Option Bytes)
-    (done : Done) (end : End) : Type 0 where
-  pub entries : List Entry
-  pub final : Sitting
-  pub log : IsLogTo look g c s entries (Closes final)
-  pub holds : Holds g c final
-  pub last : Done
-  pub stores : Stores path g final.events last end
-  pub same : done ≡ after_log entries last
-
--- the log has begun, and nothing was stored
-abbrev pub IsCutShort : Look → Game → Claim → Sitting → Done → Type 0
-IsCutShort look g c s done =
-    ((stage : Stage) × IsLogTo look g c s done.entries stage) × (done.stored ≡ [])
+-- the log is whole at this stage, these events were played, and the claim is held
+abbrev pub EndsWith : Game → Claim → Stage → List Event → Type 0
+EndsWith g c stage events = (final : Sitting) × (stage ≡ Closes final) × (events ≡ final.events)
+    × Holds g c final
 
 -- a game that began so is played: its log is whole and its record stored. If a call fails or memory
 -- runs out, the log has begun and nothing was stored, or the log is whole and storing was stopped
 abbrev pub PlaysSeat : Look → Game → Claim → Sitting → Option Bytes → Done → End → Type 0
-PlaysSeat look g c s path done (Finished status) = Closed look g c s path done (Finished status)
-PlaysSeat look g c s path done Failed =
-    IsCutShort look g c s done ⊎ Closed look g c s path done Failed
-PlaysSeat look g c s path done Starved =
-    IsCutShort look g c s done ⊎ Closed look g c s path done Starved
+PlaysSeat look g c s path = PlaysLog (Steps look g c) (Shows s 0) (EndsWith g c) g path
 
 -- the certificate for which it stands is valid, and the game is played by the claim of the side
 abbrev pub PlaysBy : Look → Option Side → Game → Evidence → Option Bytes → Done → End → Type 0

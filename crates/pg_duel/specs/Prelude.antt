@@ -18,6 +18,7 @@ pub use Rattle.pg_game.specs.Game.{point_count}
 unfoldable pub use Rattle.pg_game.specs.Game.{is_over, outcome}
 pub use Rattle.pg_game.specs.Judge.{judged_move}
 pub use Rattle.pg_game.specs.Value.{reaches}
+pub use Rattle.pg_game.specs.declared.field.Field.{Field}
 pub use Rattle.pg_game.specs.declared.game.Game.{Game}
 pub use Rattle.pg_game.specs.declared.position.Illegal.{Illegal}
 pub use Rattle.pg_game.specs.declared.position.Position.{Position}
@@ -33,25 +34,28 @@ pub use Rattle.pg_messages.specs.declared.refusal.Refusal.TheVariants.{NoClaim}
 pub use Rattle.pg_messages.specs.declared.statuses.TheConstants.{DONE}
 pub use Rattle.pg_opponent.specs.Fits.{IsFit}
 pub use Rattle.pg_opponent.specs.Sitting.{Answered, Begins, IsAfter, Sitting, place, sitting_of}
+pub use Rattle.pg_opponent.specs.declared.seat.OwnPoint.{OwnPoint}
 pub use Rattle.pg_player.specs.Player.{chosen_claim}
+pub use Rattle.pg_player.specs.declared.rule.Rule.{Rule}
 pub use Rattle.pg_playing.specs.Courses.{Breaks, Goes}
-pub use Rattle.pg_playing.specs.Playing.{Stores, after_log, names_of, turned_to}
-pub use Rattle.pg_playing.specs.Screens.{answer_text, screen_text}
+pub use Rattle.pg_playing.specs.Notes.{note_text}
+pub use Rattle.pg_playing.specs.Playing.{PlaysLog, Stores, names_of, turned_to}
+pub use Rattle.pg_playing.specs.Screens.{screen_text}
 pub use Rattle.pg_playing.specs.TableLog.{ending_at, ending_of, note_of_lines}
 pub use Rattle.pg_playing.specs.declared.dialogue.TheConstants.{MAX_HEARD}
 pub use Rattle.pg_playing.specs.declared.dialogue.Turn.{Turn}
 pub use Rattle.pg_playing.specs.declared.note.Note.{Note}
-pub use Rattle.pg_record.specs.Session.{Recorded}
 pub use Rattle.pg_record.specs.declared.event.Event.{Event}
-pub use Rattle.pg_sessions.specs.Course.{Course, LeadsBy}
+pub use Rattle.pg_sessions.specs.Course.{Course}
 pub use Rattle.pg_sessions.specs.SessionLog.{reason_of}
 pub use Rattle.pg_table.specs.Names.{point_name}
 pub use Rattle.pg_table.specs.Reply.{read_reply}
+pub use Rattle.pg_table.specs.Words.{turn_text}
 pub use Rattle.pg_table.specs.declared.reply.Reply.{Reply}
 pub use Rattle.pg_table.specs.declared.shown.Look.{Look}
-pub use Rattle.pg_talk.specs.Done.{Changes, Does, Done, End, Failed, Finished, Follows as FollowsOn}
-pub use Rattle.pg_talk.specs.Done.{Starved, Stops, stop_end, talk}
-pub use Rattle.pg_talk.specs.Halts.{BothCauses, HaltCauses, IsReadHalt, IsWriteHalt}
+pub use Rattle.pg_talk.specs.Done.{Does, Done, End, Finished, Follows as FollowsOn}
+pub use Rattle.pg_talk.specs.Done.{Starved, stop_end}
+pub use Rattle.pg_talk.specs.Halts.{BothCauses, HaltCauses, IsReadHalt}
 pub use Rattle.pg_talk.specs.Opening.{IsSaidBy, game_held}
 pub use Rattle.pg_talk.specs.Reading.{IsLackingTwo, OpensTwo, both}
 pub use Rattle.pg_talk.specs.Reply.{trimmed}

@@ -1,5 +1,5 @@
 -- What the code keeps of a game line by line.
-use Rattle.std.specs.Prelude.{◌≡◌, Bool, true, Result, Ok, Err, ⊤}
+use Rattle.std.specs.Prelude.{◌≡◌, true, Result, Ok, Err, ⊤}
 use Rattle.pg_duel.specs.Prelude.{Claim, Game, IsFit, Sitting, Stop, Turn, is_over, outcome, place}
 use Rattle.pg_duel.specs.Prelude.{reaches, sitting_of}
 use Rattle.pg_opponent.specs.declared.seat.Seat.{Seat}

@@ -1,20 +1,21 @@
 //! The dialogue of a person with the program: boards are shown, and lines are heard and answered.
 ghost use Rattle.std.specs.Prelude.{◌≡◌, ◌+◌, ℕ, IfOk, Some};
-ghost use Rattle.pg_duel.specs.Prelude.{Causes, Goes, Look, chosen_claim, sitting_of};
-ghost use Rattle.pg_duel.specs.DuelLog.{Acts, Closes, Listens, Notes, Shows, Steps, after_shown};
-ghost use Rattle.pg_duel.specs.DuelLog.{turned};
+ghost use Rattle.pg_duel.specs.Prelude.{Causes, Claim, Game, Goes, Look, Sitting, chosen_claim};
+ghost use Rattle.pg_duel.specs.Prelude.{sitting_of};
+ghost use Rattle.pg_duel.specs.DuelLog.{Acts, Closes, Leaves, Listens, Notes, Shows, Steps};
+ghost use Rattle.pg_duel.specs.DuelLog.{after_shown, turned};
 ghost use Rattle.pg_duel.specs.Seats.{Holds, Keeps, Sits, Stays};
 ghost use Rattle.pg_table.specs.declared.reply.Reply.TheVariants as replies;
 ghost use Rattle.pg_playing.specs.declared.note.Note.TheVariants as notes;
 
-use crate::words::seat_screen;
+use crate::words::{reply_text, seat_screen};
 use pg_check::Checked;
 use pg_game::Game;
 use pg_io::{Console, Heard, Stop};
 use pg_messages::ReplyFault;
 use pg_opponent::Seat;
 use pg_player::OpenFault;
-use pg_playing::{MAX_HEARD, Note, Turn, answer, note_of_lines, reason_of};
+use pg_playing::{MAX_HEARD, Note, Turn, note_of_lines, reason_of};
 use pg_table::{Look, Reply, read_reply};
 use pg_talk::{MAX_REPLY, say_text, trimmed};
 use std::alloc::Global;
@@ -34,7 +35,7 @@ fn note<C: Console>(
         (λ turn. turned (sitting_of seat.now) heard turn) }
     ensures causes { Causes ⊥ (C.told console.old).faults (C.told console.new).faults result }
 {
-    let text = answer(alloc, game, &seat.session.position(), note)?;
+    let text = reply_text(alloc, game, &seat.session.position(), note)?;
     say_text(console, text.as_str())?;
     Ok(Turn::Noted)
 }
@@ -170,8 +171,20 @@ fn answer_line<'a, C: Console>(
             note(alloc, checked.game, seat, lines, console)
         }
         Reply::Help => note(alloc, checked.game, seat, Note::Help, console),
+        Reply::NoCell => refuse(alloc, checked.game, seat, ReplyFault::NoPoint, console),
         Reply::Unclear => refuse(alloc, checked.game, seat, ReplyFault::NoNumber, console),
     }
+}
+
+/// Ends the prompt's line, as no line was typed.
+fn leave<C: Console>(console: &mut C) -> Result<Turn, Stop>
+    ensures course { (look : Look) → (g : Game) → (c : Claim) → (s : Sitting) → (heard : ℕ)
+        → Goes (Steps look g c) (C.told console.old) (C.told console.new) (Leaves s) result
+        (λ turn. turned s heard turn) }
+    ensures causes { Causes ⊥ (C.told console.old).faults (C.told console.new).faults result }
+{
+    say_text(console, "\n")?;
+    Ok(Turn::Ended)
 }
 
 /// Hears a line and does what it asks for.
@@ -200,7 +213,7 @@ fn take_turn<'a, C: Console>(
             answer_line(alloc, checked, seat, reply, console)
         }
         Ok(Heard::Long) => refuse(alloc, checked.game, seat, ReplyFault::NoNumber, console),
-        Ok(Heard::End) => Ok(Turn::Ended),
+        Ok(Heard::End) => leave(console),
         Err(_) => Err(Stop::Read),
     }
 }

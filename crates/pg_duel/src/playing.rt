@@ -1,12 +1,10 @@
 //! A game from its file, played against the program by a certificate, and its record.
 ghost use Rattle.std.specs.Prelude.{◌≡◌, IfErr, IfOk, Some, option_copied, ⊤};
 ghost use Rattle.pg_duel.specs.Prelude.{BothCauses, Does, Evidence, HaltCauses, IsReadHalt};
-ghost use Rattle.pg_duel.specs.Prelude.{IsValid};
-ghost use Rattle.pg_duel.specs.Prelude.{IsWithinItsLimits, QuietsBy, ReadsOnly, Runs, StandsFor};
-ghost use Rattle.pg_duel.specs.Prelude.{StoresAt, chosen_claim, names_of, sitting_of};
+ghost use Rattle.pg_duel.specs.Prelude.{IsValid, IsWithinItsLimits, QuietsBy, ReadsOnly, Runs};
+ghost use Rattle.pg_duel.specs.Prelude.{StandsFor, StoresAt, chosen_claim, names_of, sitting_of};
 ghost use Rattle.pg_duel.specs.Dueling.{AreLacking, Duels, GivesDuel, OpensBoth, PlaysBy};
-ghost use Rattle.pg_duel.specs.Dueling.{PlaysSeat};
-ghost use Rattle.pg_duel.specs.Dueling.{Refuses, RefusesBy, RunsOn, both_held};
+ghost use Rattle.pg_duel.specs.Dueling.{PlaysSeat, Refuses, RefusesBy, RunsOn, both_held};
 ghost use Rattle.pg_duel.specs.Seats.{Sits};
 ghost use Rattle.pg_duel.specs.Sides.{side_by};
 ghost use Rattle.pg_playing.specs.Playing.{GivesTable};

@@ -31,7 +31,14 @@ use Rattle.pg_family_book.specs.declared.spans.TheConstants.{PARTED}
 
 -- a picture has no legend of its own, since its page has one
 abbrev pub leaf_look : Look
-leaf_look = record { numbers = true; lines = false; legend = Absent; size = None; blank = None }
+leaf_look = record {
+  numbers = true;
+  lines = false;
+  legend = Absent;
+  size = None;
+  blank = None;
+  layout = None;
+}
 
 -- what is to be seen of a claim: the graph, each edge with its mark, and what the body names
 abbrev pub span_scene : SpanGame → SpanClaim → Scene

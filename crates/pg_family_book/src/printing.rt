@@ -19,6 +19,7 @@ use std::alloc::Global;
 pub const TABLES: &str = "table{border-collapse:collapse;margin:.5rem 0}
 th,td{border:1px solid #999;padding:.1rem .6rem;text-align:left}
 td:nth-child(2){font-family:ui-monospace,monospace}
+@media (max-width:26rem){th,td{padding:.1rem .3rem}}
 ";
 
 /// The style sheet.

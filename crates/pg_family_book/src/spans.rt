@@ -50,6 +50,7 @@ fn leaf_look() -> Look
         legend: Legend::Absent,
         size: None,
         blank: None,
+        layout: None,
     }
 }
 

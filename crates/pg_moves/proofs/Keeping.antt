@@ -162,7 +162,7 @@ moves_by g trials known is = ap (λ (b : Bool). if b then Some (keeping g) else 
 module _ (g : Game) (trials : List Trial) (points : points_of trials ≡ legal_moves g)
     (are : AreTrue g trials) where
   -- where the game isn't over, its value is the best of those after the moves
-  best_is_value : all_known trials ≡ true
+  pub best_is_value : all_known trials ≡ true
       → is_over g (start g) ≡ false
       → best g.turn (known_scores trials) ≡ value g (start g)
   best_is_value known going =

@@ -35,7 +35,7 @@ unfolding over_by is_over free_points
 over-is g p = refl
 
 -- the same for two games of the same kind and field, at the same marks
-over_same : (g h : Game) (p q : Position)
+pub over_same : (g h : Game) (p q : Position)
     → h.kind ≡ g.kind
     → h.field ≡ g.field
     → q.x ≡ p.x
@@ -57,7 +57,7 @@ outcome_same g p q x y = ap₂ (λ (a b : FinSet nat_cmp).
 -- ---- the position
 
 -- where a turn begins at a position, the game that has its marks stands there
-start-here : (g here : Game) (p : Position)
+pub start-here : (g here : Game) (p : Position)
     → IsGameAt g p here
     → p.left ≡ bias_of g p.turn
     → start here ≡ p
@@ -133,7 +133,7 @@ position_by g h p rules position = record {
       position.few_left;
 }
 
-stands_by : (g h here : Game) (p : Position)
+pub stands_by : (g h here : Game) (p : Position)
     → HasRulesOf g h
     → IsGameAt h p here
     → IsGameAt g p here

@@ -16,7 +16,7 @@ fn any_has(trials: &[Trial], score: Score) -> bool
 }
 
 /// Returns whether the value after each move is known.
-fn are_known(trials: &[Trial]) -> bool
+pub fn are_known(trials: &[Trial]) -> bool
     ensures { result ≡ all_known trials.now }
 {
     trials.iter().all(|trial| trial.worth.is_known())
@@ -35,8 +35,8 @@ fn best_of(side: Side, x_wins: bool, draws: bool, y_wins: bool) -> Score
     }
 }
 
-/// Returns the best of the known values for the side.
-fn best_score(side: Side, trials: &[Trial]) -> Score
+/// Returns the best of the known values for the side: of none the worst.
+pub fn best_score(side: Side, trials: &[Trial]) -> Score
     ensures { result ≡ best side (known_scores trials.now) }
 {
     let x_wins = any_has(trials, Score::XWins);

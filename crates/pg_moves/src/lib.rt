@@ -12,6 +12,8 @@ mod trial;
 mod trying;
 mod worth;
 
+pub use best::{are_known, best_score};
 pub use order::MovesOrder;
 pub use running::settle_moves;
 pub use trial::{Trial, Worth};
+pub use trying::try_moves;

@@ -70,8 +70,11 @@ fn try_points<S: Finder>(
 ) -> Result<Vec<Trial>, Memory>
     requires budget { IsBudget budget }
     requires going { is_over game.old (start game.old) ≡ false }
-    ensures { IfOk result
+    ensures trials { IfOk result
         (λ trials. AreTrials (S.brings finder.old) budget game.old trials.items) }
+    ensures same { (other : Game) → (allowed : Budget) → (later : Outcome)
+        → S.brings finder.new other allowed later
+        → S.brings finder.old other allowed later }
 {
     let from = game.start();
     let mut trials = Vec::new(alloc);
@@ -86,16 +89,23 @@ fn try_points<S: Finder>(
 }
 
 /// Tries each legal move from the game's own position, in ascending order of the points: none if
-/// the game is over.
-pub(crate) fn try_moves<S: Finder>(
+/// the game is over. The game then has other marks.
+///
+/// # Errors
+///
+/// `Memory` if an allocation failed.
+pub fn try_moves<S: Finder>(
     alloc: Global,
     game: &mut Game,
     budget: Budget,
     finder: &mut S,
 ) -> Result<Vec<Trial>, Memory>
     requires { IsBudget budget }
-    ensures { IfOk result
+    ensures trials { IfOk result
         (λ trials. AreTrials (S.brings finder.old) budget game.old trials.items) }
+    ensures same { (other : Game) → (allowed : Budget) → (later : Outcome)
+        → S.brings finder.new other allowed later
+        → S.brings finder.old other allowed later }
 {
     let over = is_over(alloc, game, &game.start())?;
     if over {

@@ -1,16 +1,14 @@
 -- Points that are recorded: a record of points alone stays one.
 use Rattle.std.proofs.Common.{◌≡◌, ◌∙◌, ℕ, ◌+◌, ◌<◌, ◌≤◌, nat_lt, not, if◌then◌else◌, Bool, true}
-use Rattle.std.proofs.Common.{false, List, []}
-use Rattle.std.proofs.Common.{◌∷◌, ◌++◌, length, Ok, Err, is_ok, refl, sym, ap, arith, Result}
+use Rattle.std.proofs.Common.{false, List, [], ◌∷◌, ◌++◌, length, Ok, Err, refl, ap, arith}
 use Rattle.std.proofs.lemmas.List.Filters.{length-filter_both}
 use Rattle.std.proofs.lemmas.List.FromFn.{length-range_with_len}
-use Rattle.std.specs.List.{filter, range_with_len}
-use Rattle.pg_opponent.proofs.Common.{Event, Game, Illegal, IsRecord, MAX_EVENTS, Play, Position}
-use Rattle.pg_opponent.proofs.Common.{after, free_points, is_free, is_over, judged_move}
-use Rattle.pg_opponent.proofs.Common.{length_push}
-use Rattle.pg_opponent.proofs.Common.{legal-standing, length-legal_play, nat_tests, played-more}
-use Rattle.pg_opponent.proofs.Common.{point_count, point_count-le, record-more, standing}
-use Rattle.pg_opponent.proofs.Common.{standing-more, start}
+use Rattle.std.specs.List.{range_with_len}
+use Rattle.pg_opponent.proofs.Common.{Event, Game, MAX_EVENTS, Play, Position, after, free_points}
+use Rattle.pg_opponent.proofs.Common.{is_free, is_over, judged_move, legal-standing}
+use Rattle.pg_opponent.proofs.Common.{length-legal_play, length_push, ltb-true, nat_tests}
+use Rattle.pg_opponent.proofs.Common.{played-more, point_count, point_count-le, record-more}
+use Rattle.pg_opponent.proofs.Common.{standing, standing-more, start}
 use Rattle.pg_game.specs.Play.{played}
 use Rattle.pg_game.specs.declared.position.Illegal.TheVariants.{Over, Range, Taken}
 use Rattle.pg_opponent.specs.Fits.{IsLegal, MayPlay}
@@ -71,6 +69,21 @@ judged_after g p q v e =
     go true false false e = absurd cc
     go true true free e = absurd cc
     go false over free e = absurd cc
+
+-- a move that isn't refused is a point of the game
+pub judged_within : (g : Game) (p q : Position) (v : ℕ)
+    → judged_move g p v ≡ Ok q
+    → v < point_count g
+judged_within g p q v e = go (nat_lt v (point_count g)) refl e where
+  go : (within : Bool)
+      → nat_lt v (point_count g) ≡ within
+      → (if within
+      then (if is_over g p then Err Over else (if is_free p v then Ok (after g p v) else Err Taken))
+      else Err Range)
+      ≡ Ok q
+      → v < point_count g
+  go true is e = ltb-true v (point_count g) is
+  go false is e = absurd cc
 
 -- a free point in a game that goes on may be claimed
 pub free_is_judged : (g : Game) (p : Position) (v : ℕ)

@@ -1,18 +1,19 @@
--- THE GAME OF THE PROGRAM AGAINST A PERSON: which points the program claims, and what comes of the
--- person's replies.
-use Rattle.std.specs.Prelude.{◌≡◌, ◌⊎◌, ℕ, ◌-◌, List, [], ◌∷◌, ◌++◌, length, map, Some, Result, Ok}
-use Rattle.std.specs.Prelude.{Err}
+-- THE GAME OF THE PROGRAM AGAINST A PERSON: which points the program claims, by which rules, and
+-- what comes of the person's replies.
+use Rattle.std.specs.Prelude.{◌≡◌, ℕ, ◌-◌, List, [], ◌∷◌, ◌++◌, length, map, Option, Some}
+use Rattle.std.specs.Prelude.{None, Result, Ok, Err}
 use Rattle.pg_opponent.specs.Prelude.{Claim, Event, Game, Illegal, MakesMove, Play, Player}
 use Rattle.pg_opponent.specs.Prelude.{Position, TakesReply, Waits, arrives, judged_move, replay}
-use Rattle.pg_opponent.specs.Prelude.{start}
+use Rattle.pg_opponent.specs.Prelude.{rule_of, start}
+use Rattle.pg_opponent.specs.declared.seat.OwnPoint.{OwnPoint}
 use Rattle.pg_opponent.specs.declared.seat.Seat.{Seat}
 
 -- where the program's player stands, what both sides have played, the program's points since the
--- last reply, and the replies
+-- last reply with their rules, and the replies
 pub record Sitting : Type 0 where
   pub player : Player
   pub events : List Event
-  pub own : List ℕ
+  pub own : List OwnPoint
   pub replies : List ℕ
 
 -- the position after these events
@@ -21,14 +22,28 @@ place g events = (replay g events).position
 
 -- ---- the program's moves
 
--- the player makes these moves one after the other, each by the rule of its claim
-abbrev pub Makes : Player → List ℕ → Player → Type 0
+-- the player claims the point, which it chooses by the rule of the body at which it stands
+pub record MakesBy (a b : Player) (made : OwnPoint) : Type 0 where
+  pub makes : MakesMove a b made.point
+  pub rule : made.rule ≡ rule_of a.standing.body
+
+-- one move, if the player owes one
+abbrev pub MovesBy : Player → Player → Option OwnPoint → Type 0
+MovesBy a b None = Waits a × (b ≡ a)
+MovesBy a b (Some made) = MakesBy a b made
+
+-- the player makes these moves one after the other
+abbrev pub Makes : Player → List OwnPoint → Player → Type 0
 Makes a [] b = b ≡ a
-Makes a (v ∷ others) b = (m : Player) × MakesMove a m v × Makes m others b
+Makes a (made ∷ others) b = (m : Player) × MakesBy a m made × Makes m others b
 
 -- these are all the moves that it owes
-abbrev pub Settles : Player → List ℕ → Player → Type 0
+abbrev pub Settles : Player → List OwnPoint → Player → Type 0
 Settles a own b = Makes a own b × Waits b
+
+-- a point that the program claims, as an event
+abbrev pub event_of : OwnPoint → Event
+event_of made = Play made.point
 
 -- ---- the beginning
 
@@ -44,7 +59,7 @@ pub record Begins (g : Game) (c : Claim) (s : Sitting) : Type 0 where
   pub first : Player
   pub opens : Opens g c first
   pub settles : Settles first s.own s.player
-  pub events : s.events ≡ map Play s.own
+  pub events : s.events ≡ map event_of s.own
   pub replies : s.replies ≡ []
 
 -- ---- replies
@@ -54,7 +69,7 @@ pub record Answered (s : Sitting) (v : ℕ) (t : Sitting) : Type 0 where
   pub between : Player
   pub takes : TakesReply s.player between v
   pub settles : Settles between t.own t.player
-  pub events : t.events ≡ s.events ++ Play v ∷ map Play t.own
+  pub events : t.events ≡ s.events ++ Play v ∷ map event_of t.own
   pub replies : t.replies ≡ s.replies ++ v ∷ []
 
 -- a reply that isn't legal changes nothing

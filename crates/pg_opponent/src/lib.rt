@@ -7,4 +7,4 @@
 
 mod seat;
 
-pub use seat::Seat;
+pub use seat::{OwnPoint, Seat};

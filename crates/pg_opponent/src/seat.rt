@@ -1,16 +1,25 @@
 //! A game of the program against a person.
-ghost use Rattle.std.specs.Prelude.{◌≡◌, ◌++◌, [], ◌∷◌, Err, IfOk, IfSome, None, Some, map};
-ghost use Rattle.std.specs.Prelude.{option_to_list};
+ghost use Rattle.std.specs.Prelude.{◌≡◌, ◌++◌, [], ◌∷◌, Err, IfOk, None, Some};
 ghost use Rattle.pg_opponent.specs.Prelude.{Play, chosen_claim};
-ghost use Rattle.pg_opponent.specs.Sitting.{Begins, Comes, IsAfter, IsAnswered, sitting_of};
+ghost use Rattle.pg_opponent.specs.Sitting.{Begins, Comes, IsAfter, IsAnswered, MovesBy};
+ghost use Rattle.pg_opponent.specs.Sitting.{sitting_of};
 ghost use Rattle.pg_opponent.specs.Fits.{IsFit, IsLegal, IsOn, MayPlay, Went};
 
 use pg_base::{Memory, Side};
 use pg_check::Checked;
 use pg_game::Illegal;
-use pg_player::{OpenFault, Player};
+use pg_player::{OpenFault, Player, Rule};
 use pg_record::Session;
 use std::alloc::Global;
+
+/// A point that the program has claimed.
+#[derive(Clone, Copy, Debug)]
+pub struct OwnPoint {
+    /// The point.
+    pub point: u16,
+    /// The rule by which the player chose it.
+    pub rule: Rule,
+}
 
 /// A game of the program against a person: the program's player, the session of what was played,
 /// the program's points since the last reply, and the person's replies that were taken.
@@ -20,8 +29,8 @@ pub struct Seat<'a> {
     pub player: Player<'a>,
     /// What was played by both sides.
     pub session: Session<'a>,
-    /// The points that the program has claimed since the last reply.
-    pub own: Vec<u16>,
+    /// The points that the program has claimed since the last reply, each with its rule.
+    pub own: Vec<OwnPoint>,
     /// The person's replies.
     pub replies: Vec<u16>,
 }
@@ -30,7 +39,7 @@ pub struct Seat<'a> {
 fn record(session: &mut Session<'_>, point: u16)
     requires legal { IsLegal session.old.game session.old.events }
     requires may { MayPlay session.old.game session.old.events point }
-    ensures events { session.new.events ≡ session.old.events ++ map Play (point ∷ []) }
+    ensures events { session.new.events ≡ session.old.events ++ Play point ∷ [] }
     ensures game { session.new.game ≡ session.old.game }
 {
     let Ok(()) = session.play(point) else {
@@ -38,24 +47,14 @@ fn record(session: &mut Session<'_>, point: u16)
     };
 }
 
-/// Records a point of the program, if it has claimed one.
-fn record_own(
-    session: &mut Session<'_>,
-    own: &mut Vec<u16>,
-    made: Option<u16>,
-) -> Result<(), Memory>
-    requires legal { IsLegal session.old.game session.old.events }
-    requires may { IfSome made (λ point. MayPlay session.old.game session.old.events point) }
-    ensures events { IfOk result (λ _. session.new.events
-        ≡ session.old.events ++ map Play (option_to_list made)) }
-    ensures own { IfOk result (λ _. own.new.items ≡ own.old.items ++ option_to_list made) }
-    ensures game { session.new.game ≡ session.old.game }
+/// Makes one move of the player if it owes one, and returns it with the rule by which the player
+/// chose it where it stood.
+fn make_move(player: &mut Player<'_>) -> Option<OwnPoint>
+    ensures { MovesBy player.old player.new result }
 {
-    if let Some(point) = made {
-        record(session, point);
-        own.push(point)?;
-    }
-    Ok(())
+    let rule = player.rule();
+    let point = player.first()?;
+    Some(OwnPoint { point, rule })
 }
 
 impl<'a> Seat<'a> {
@@ -67,9 +66,9 @@ impl<'a> Seat<'a> {
             IsFit self.old.session.game self.old.player.claim (sitting_of self.new)) }
         ensures game { self.new.session.game ≡ self.old.session.game }
     {
-        while let Some(point) = self.player.first() {
-            record(&mut self.session, point);
-            self.own.push(point)?;
+        while let Some(made) = make_move(&mut self.player) {
+            record(&mut self.session, made.point);
+            self.own.push(made)?;
         }
         Ok(())
     }
@@ -126,12 +125,11 @@ impl<'a> Seat<'a> {
             IsFit self.old.session.game self.old.player.claim (sitting_of self.new)) }
         ensures game { self.new.session.game ≡ self.old.session.game }
     {
-        match self.player.answer(point) {
-            Ok(made) => {
+        match self.player.take_reply(point) {
+            Ok(()) => {
                 record(&mut self.session, point);
                 self.replies.push(point)?;
                 self.own.clear();
-                record_own(&mut self.session, &mut self.own, made)?;
                 self.settle()?;
                 Ok(Ok(()))
             }

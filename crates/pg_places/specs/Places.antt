@@ -1,8 +1,10 @@
 -- Where points and vertices lie in a picture.
-use Rattle.std.specs.Prelude.{ℕ, ◌+◌, ◌*◌, ◌-◌, ◌/◌, ◌%◌, ◌<◌, ◌≤◌, ◌==◌, max, nat_le}
-use Rattle.std.specs.Prelude.{if◌then◌else◌, Option, Some, None, IfSome, slice_index}
-use Rattle.pg_places.specs.Prelude.{MAX_VERTICES, Place, MAX_BRIDGE_ROWS}
-use Rattle.pg_places.specs.declared.measures.TheConstants.{APART, CELL, HALF, MARGIN, MAX_ON_RING}
+use Rattle.std.specs.Prelude.{ℕ, ◌+◌, ◌*◌, ◌-◌, ◌/◌, ◌%◌, ◌<◌, ◌≤◌, ◌⊎◌, ◌==◌, max, nat_le}
+use Rattle.std.specs.Prelude.{if◌then◌else◌, Option, Some, None, IfSome, slice_get}
+use Rattle.std.specs.Prelude.{slice_index}
+use Rattle.pg_places.specs.Prelude.{Chart, MAX_VERTICES, Place, MAX_BRIDGE_ROWS, Spot, spots_of}
+use Rattle.pg_places.specs.declared.measures.TheConstants.{APART, CELL, COLUMN, HALF, LINE, MARGIN}
+use Rattle.pg_places.specs.declared.measures.TheConstants.{MAX_ON_RING}
 use Rattle.pg_places.specs.declared.measures.TheConstants.{MIN_RADIUS, QUARTER, ROW}
 use Rattle.pg_places.specs.declared.measures.TheConstants.{SINE_OF_QUARTER, SPREAD, TOP}
 use Rattle.pg_places.specs.declared.measures.TheConstants.{TURN}
@@ -37,6 +39,26 @@ lower place down = at place.across (place.down + down)
 unfoldable pub place_on_grid : ℕ → ℕ → Place
 place_on_grid width point =
     at (MARGIN + HALF + CELL * (point % max width 1)) (TOP + HALF + CELL * (point / max width 1))
+
+-- ---- layouts
+
+-- the place of a spot
+unfoldable pub place_of_spot : Spot → Place
+place_of_spot s = at (MARGIN + HALF + COLUMN * s.column) (TOP + HALF + LINE * s.line)
+
+-- that of a point, and the corner of the board for what is none
+abbrev pub spot_or_corner : Option Spot → Place
+spot_or_corner (Some s) = place_of_spot s
+spot_or_corner None = at MARGIN TOP
+
+-- the place of a point of a layout
+abbrev pub place_on_chart : Chart → ℕ → Place
+place_on_chart chart point = spot_or_corner (slice_get (spots_of chart) point)
+
+-- two places are a cell apart, across or down
+abbrev pub IsCellApart : Place → Place → Type 0
+IsCellApart a b = ((a.across + CELL ≤ b.across) ⊎ (b.across + CELL ≤ a.across))
+    ⊎ ((a.down + CELL ≤ b.down) ⊎ (b.down + CELL ≤ a.down))
 
 -- ---- circles
 

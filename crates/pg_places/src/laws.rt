@@ -1,8 +1,8 @@
 //! Laws of places. Each function is empty: what it promises is a law of the definitions alone.
-ghost use Rattle.std.specs.Prelude.{◌≡◌, ◌≤◌, ◌<◌, ℕ};
-ghost use Rattle.pg_places.specs.Prelude.{MAX_VERTICES};
-ghost use Rattle.pg_places.specs.Places.{place_on_bridge, place_on_circle, place_on_grid};
-ghost use Rattle.pg_places.specs.Places.{place_on_ring};
+ghost use Rattle.std.specs.Prelude.{◌≡◌, ◌≢◌, ◌≤◌, ◌<◌, ℕ};
+ghost use Rattle.pg_places.specs.Prelude.{Chart, IsLayout, MAX_VERTICES, spots_of};
+ghost use Rattle.pg_places.specs.Places.{IsCellApart, place_on_bridge, place_on_chart};
+ghost use Rattle.pg_places.specs.Places.{place_on_circle, place_on_grid, place_on_ring};
 
 /// Different points of a board of squares lie at different places.
 pub fn cells_lie_apart()
@@ -29,4 +29,13 @@ pub fn points_of_rings_lie_apart()
         → v < points
         → place_on_ring points u ≡ place_on_ring points v
         → u ≡ v }
+{}
+
+/// Different points of a layout lie a cell apart at least, across or down.
+pub fn points_of_layouts_lie_apart()
+    ensures { (chart : Chart) → (points u v : ℕ) → IsLayout points (spots_of chart)
+        → u < points
+        → v < points
+        → u ≢ v
+        → IsCellApart (place_on_chart chart u) (place_on_chart chart v) }
 {}

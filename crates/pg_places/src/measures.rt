@@ -12,6 +12,12 @@ pub const MARGIN: u32 = 24;
 /// How far a board is from the top of its picture.
 pub const TOP: u32 = 48;
 
+/// How wide a column of a layout is, a quarter of a cell.
+pub const COLUMN: u32 = 12;
+
+/// How high a line of a layout is, half a cell.
+pub const LINE: u32 = 24;
+
 /// How far apart the vertices of a Bridg-It board are.
 pub const APART: u32 = 64;
 

@@ -1,5 +1,6 @@
 pub mod Prelude
 pub mod Player
 pub mod Stand
+pub mod Rule
 pub mod Beside
 pub mod InPlay

@@ -11,6 +11,8 @@
 mod choice;
 mod moves;
 mod player;
+mod rule;
 mod standing;
 
 pub use player::{OpenFault, Player};
+pub use rule::Rule;

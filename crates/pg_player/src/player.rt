@@ -5,9 +5,11 @@ ghost use Rattle.pg_player.specs.Prelude.{arrives, start, is_over, outcome, judg
 ghost use Rattle.pg_player.specs.Prelude.{IsLegalPlay, played, reaches, Forces};
 ghost use Rattle.pg_player.specs.Player.{Moves, Answers, MakesMove, TakesReply, Waits};
 ghost use Rattle.pg_player.specs.Player.{chosen_claim};
+ghost use Rattle.pg_player.specs.Rule.{rule_of};
 
 use crate::choice::chosen_claim;
 use crate::moves::own_move;
+use crate::rule::{Rule, rule_of_rest};
 use crate::standing::{Stand, replied, root};
 use pg_base::{Goal, Kind, Memory, Score, Side};
 use pg_cert::Claim;
@@ -177,6 +179,13 @@ impl<'a> Player<'a> {
         self.ending
     }
 
+    /// The rule by which the player moves where it stands.
+    pub fn rule(&self) -> Rule
+        ensures { result ≡ rule_of self.now.standing.body }
+    {
+        rule_of_rest(self.claim, self.stand.rest)
+    }
+
     /// Makes the own move, where the player is to move in a game that goes on.
     fn make_move(&mut self) -> u16
         requires going { is_over self.old.game self.old.position ≡ false }
@@ -204,8 +213,13 @@ impl<'a> Player<'a> {
         Some(self.make_move())
     }
 
-    /// Takes the other side's point.
-    fn take_reply(&mut self, v: u16) -> Result<(), Illegal>
+    /// Takes the other side's point, and makes no move: `first` makes those that the player then
+    /// owes.
+    ///
+    /// # Errors
+    ///
+    /// As those of `answer`. Then nothing changes.
+    pub fn take_reply(&mut self, v: u16) -> Result<(), Illegal>
         requires { Waits self.old }
         ensures taken { OnOk result (TakesReply self.old self.new v) }
         ensures refused { IfErr result

@@ -6,7 +6,8 @@ pub use Rattle.pg_playing.specs.Prelude.{IsMadeForGame, IsRecord, IsWriteHalt, L
 pub use Rattle.pg_playing.specs.Prelude.{MAX_EVENTS, Memory, OpensGame, Play, Position, QuietsBy}
 pub use Rattle.pg_playing.specs.Prelude.{Read, Recorded, Refusal, Refused, Reply, Runs, Said}
 pub use Rattle.pg_playing.specs.Prelude.{Side, Skipped, Starved, Stop, Stopped, Stops, Write}
-pub use Rattle.pg_playing.specs.Prelude.{game_held}
+pub use Rattle.pg_playing.specs.Prelude.{COLUMNS, FitsIn, ReplyFault, Score, Shown, board_text}
+pub use Rattle.pg_playing.specs.Prelude.{game_held, goals_text, result_text, turn_text}
 pub use Rattle.pg_playing.specs.Prelude.{judged_move, point_count, read_reply, reason_of}
 pub use Rattle.pg_playing.specs.Prelude.{record_file, recorded_text, refusal_of, replay}
 pub use Rattle.pg_playing.specs.Prelude.{standing_count, stop_end, talk, trimmed, with_left}

@@ -4,3 +4,4 @@ pub mod Stages
 pub mod Logs
 pub mod Lines
 pub mod Runs
+pub mod Rows

@@ -8,10 +8,9 @@ use Rattle.pg_playing.proofs.Common.{Skipped}
 use Rattle.pg_playing.proofs.Common.{judged_move, length_push, ltb-true, read_reply, record-more}
 use Rattle.pg_playing.proofs.Common.{replay, trimmed, is_over}
 use Rattle.pg_table.specs.declared.reply.Reply.TheVariants as reply
-use Rattle.pg_playing.specs.TableLog.{Closes, IsLogTo, Listens, Notes, Shows, Stage, Steps}
-use Rattle.pg_playing.specs.TableLog.{after_answer, after_claim, after_reply, after_shown}
-use Rattle.pg_playing.specs.TableLog.{after_undo}
-use Rattle.pg_playing.specs.TableLog.{events_at, place}
+use Rattle.pg_playing.specs.TableLog.{Closes, IsLogTo, Leaves, Listens, Notes, Shows, Stage}
+use Rattle.pg_playing.specs.TableLog.{Steps, after_answer, after_claim, after_reply, after_shown}
+use Rattle.pg_playing.specs.TableLog.{after_undo, events_at, place}
 use Rattle.pg_playing.specs.declared.dialogue.TheConstants.{MAX_HEARD}
 
 -- ---- a log leads to one stage
@@ -32,6 +31,10 @@ next_same look g (Notes events heard note) m n (Said text) a b = a.1 ∙ sym b.1
 next_same look g (Notes events heard note) m n (Heard line) a b = absurd a
 next_same look g (Notes events heard note) m n (Skipped line) a b = absurd a
 next_same look g (Notes events heard note) m n Ended a b = absurd a
+next_same look g (Leaves events) m n (Said text) a b = a.1 ∙ sym b.1
+next_same look g (Leaves events) m n (Heard line) a b = absurd a
+next_same look g (Leaves events) m n (Skipped line) a b = absurd a
+next_same look g (Leaves events) m n Ended a b = absurd a
 next_same look g (Closes events) m n (Said text) a b = absurd a
 next_same look g (Closes events) m n (Heard line) a b = absurd a
 next_same look g (Closes events) m n (Skipped line) a b = absurd a
@@ -58,12 +61,14 @@ abbrev pub IsSound : Game → Stage → Type 0
 IsSound g (Shows events heard) = IsWithin g events heard × (heard ≤ MAX_HEARD)
 IsSound g (Listens events heard) = IsWithin g events heard × (heard < MAX_HEARD)
 IsSound g (Notes events heard note) = IsWithin g events heard × (heard ≤ MAX_HEARD)
+IsSound g (Leaves events) = IsRecord g events
 IsSound g (Closes events) = IsRecord g events
 
 sound_record : (g : Game) (s : Stage) → IsSound g s → IsRecord g (events_at s)
 sound_record g (Shows events heard) sound = sound.0.allowed
 sound_record g (Listens events heard) sound = sound.0.allowed
 sound_record g (Notes events heard note) sound = sound.0.allowed
+sound_record g (Leaves events) sound = sound
 sound_record g (Closes events) sound = sound
 
 -- a further line
@@ -114,6 +119,7 @@ module _ (g : Game) (events : List Event) (heard : ℕ) (within : IsWithin g eve
   reply_sound (reply.Lines through) = (more_lines g events heard within, after)
   reply_sound reply.Help = (more_lines g events heard within, after)
   reply_sound reply.Quit = within.allowed
+  reply_sound reply.NoCell = (more_lines g events heard within, after)
   reply_sound reply.Unclear = (more_lines g events heard within, after)
 
 answer_sound : (g : Game) (events : List Event) (heard : ℕ)
@@ -156,6 +162,11 @@ step_sound look g (Notes events heard note) m (Said text) sound step =
 step_sound look g (Notes events heard note) m (Heard line) sound step = absurd step
 step_sound look g (Notes events heard note) m (Skipped line) sound step = absurd step
 step_sound look g (Notes events heard note) m Ended sound step = absurd step
+step_sound look g (Leaves events) m (Said text) sound step =
+    subst (λ (k : Stage). IsSound g k) (sym step.1) sound
+step_sound look g (Leaves events) m (Heard line) sound step = absurd step
+step_sound look g (Leaves events) m (Skipped line) sound step = absurd step
+step_sound look g (Leaves events) m Ended sound step = absurd step
 step_sound look g (Closes events) m (Said text) sound step = absurd step
 step_sound look g (Closes events) m (Heard line) sound step = absurd step
 step_sound look g (Closes events) m (Skipped line) sound step = absurd step

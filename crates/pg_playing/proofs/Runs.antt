@@ -11,15 +11,15 @@ use Rattle.pg_playing.proofs.Common.{kept, not_opened, opened, runs_halt, silent
 use Rattle.pg_files.specs.GameFile.{Entry as GameEntry}
 use Rattle.pg_playing.specs.Courses.{Breaks}
 use Rattle.pg_playing.specs.Playing.{Closed, GivesPlay, GivesTable, IsCutShort, Plays, PlaysGame}
-use Rattle.pg_playing.specs.Playing.{Stores, after_log, turned_to}
+use Rattle.pg_playing.specs.Playing.{PlaysLog, Stores, after_log, turned_to}
 use Rattle.pg_playing.proofs.Common.{Side}
-use Rattle.pg_playing.specs.TableLog.{Closes, Shows, Steps}
 
 -- ---- a game that has ended or was left, and then its record
 
-module _ (look : Look) (g : Game) (path : Option Bytes) (files files' : FilesTold)
-    (before mid after : ConsoleTold) (events : List Event)
-    (course : Course (Steps look g) before mid (Shows [] 0) (Closes events)) where
+module _ {S : Type 0} (Steps : S → Entry → S → Type 0) (first final : S)
+    (IsWhole : S → List Event → Type 0) (g : Game) (path : Option Bytes)
+    (files files' : FilesTold) (before mid after : ConsoleTold) (events : List Event)
+    (whole : IsWhole final events) (course : Course Steps before mid first final) where
   joined : (held : Holding) (part : Done) (end : End)
       → Changes held files' mid after part end
       → Changes held files' before after (after_log course.entries part) end
@@ -35,11 +35,13 @@ module _ (look : Look) (g : Game) (path : Option Bytes) (files files' : FilesTol
 
   closed : (part : Done) (end : End)
       → Stores path g events part end
-      → Closed look g path (after_log course.entries part) end
+      → Closed Steps first IsWhole g path (after_log course.entries part) end
   closed part end stores = record {
     entries = course.entries;
+    final = final;
     events = events;
     log = course.leads;
+    whole = whole;
     last = part;
     stores = stores;
     same = refl;
@@ -49,11 +51,11 @@ module _ (look : Look) (g : Game) (path : Option Bytes) (files files' : FilesTol
   unclosed : (part : Done)
       → part.entries ≡ []
       → part.stored ≡ []
-      → IsCutShort look g (after_log course.entries part)
+      → IsCutShort Steps first (after_log course.entries part)
   unclosed part said stored = (
     (
-      Closes events,
-      subst (λ (es : List Entry). LeadsBy (Steps look g) (Shows [] 0) es (Closes events))
+      final,
+      subst (λ (es : List Entry). LeadsBy Steps first es final)
           (sym (ap (λ (es : List Entry). course.entries ++ es) said ∙ append-nil course.entries))
           course.leads,
     ),
@@ -62,7 +64,7 @@ module _ (look : Look) (g : Game) (path : Option Bytes) (files files' : FilesTol
 
   stopped : (stop : Stop) (part : Done)
       → Stops (Stores path g events) part (stop_end stop)
-      → PlaysGame look g path (after_log course.entries part) (stop_end stop)
+      → PlaysLog Steps first IsWhole g path (after_log course.entries part) (stop_end stop)
   stopped Read part (inl none) = inl (unclosed part none.0 none.1)
   stopped Read part (inr act) = inr (closed part Failed act)
   stopped Write part (inl none) = inl (unclosed part none.0 none.1)
@@ -73,11 +75,12 @@ module _ (look : Look) (g : Game) (path : Option Bytes) (files files' : FilesTol
   -- the record was stored, if there is a path for it
   pub plays_closed : (r : Result ℕ Halt)
       → Does (Stores path g events) files files' mid after r
-      → Does (PlaysGame look g path) files files' before after r
+      → Does (PlaysLog Steps first IsWhole g path) files files' before after r
   plays_closed r does = go files.held r does where
     go : (h : Option Holding) (r : Result ℕ Halt)
         → IfSome h (λ held. Follows (λ _. ⊥) (Stores path g events) held files' mid after r)
-        → IfSome h (λ held. Follows (λ _. ⊥) (PlaysGame look g path) held files' before after r)
+        → IfSome h (λ held. Follows (λ _. ⊥) (PlaysLog Steps first IsWhole g path) held files'
+        before after r)
     go None r does = tt
     go (Some held) (Ok status) (part, act, changes) = (
       after_log course.entries part,
@@ -111,18 +114,18 @@ stores_none g events files console = go files.held refl where
 
 -- ---- a game that was stopped
 
-module _ (look : Look) (g : Game) (path : Option Bytes) (files : FilesTold)
+module _ {S : Type 0} (Steps : S → Entry → S → Type 0) (first : S)
+    (IsWhole : S → List Event → Type 0) (g : Game) (path : Option Bytes) (files : FilesTold)
     (before after : ConsoleTold) where
   pub plays_broken : (stop : Stop)
-      → Breaks (Steps look g) before after (Shows [] 0) stop
-      → Does (PlaysGame look g path) files files before after (Err (Stopped stop))
+      → Breaks Steps before after first stop
+      → Does (PlaysLog Steps first IsWhole g path) files files before after (Err (Stopped stop))
   plays_broken stop broken = go files.held refl stop broken where
     go : (h : Option Holding)
         → files.held ≡ h
-        → (stop : Stop) → Breaks (Steps look g) before after (Shows [] 0) stop
-        → IfSome h
-        (λ held. Follows (λ _. ⊥) (PlaysGame look g path) held files before after
-        (Err (Stopped stop)))
+        → (stop : Stop) → Breaks Steps before after first stop
+        → IfSome h (λ held. Follows (λ _. ⊥) (PlaysLog Steps first IsWhole g path) held files before
+        after (Err (Stopped stop)))
     go None is stop broken = tt
     go (Some held) is Read (unread, t, course) = (
       talk course.entries,

@@ -1,7 +1,7 @@
 -- THE LOG OF A GAME AT A TABLE: which entry may come next and where it leads. It is asked neither
 -- how the session is kept nor what keeps it.
 use Rattle.std.specs.Prelude.{◌≡◌, ℕ, ◌+◌, nat_lt, Bool, if◌then◌else◌, List, [], ◌∷◌, ◌++◌, length}
-use Rattle.std.specs.Prelude.{Option, Some, None, Result, Ok, Err}
+use Rattle.std.specs.Prelude.{Option, Some, None, Result, Ok, Err, codes}
 use Rattle.pg_playing.specs.Prelude.{Entry, Said, Heard, Skipped, Ended, Game, Position, Illegal}
 use Rattle.pg_playing.specs.Prelude.{Score, judged_move, is_over, outcome, point_count, replay}
 use Rattle.pg_playing.specs.Prelude.{Event, Play, Back, LeadsBy, trimmed, Look, Reply, read_reply}
@@ -14,11 +14,13 @@ use Rattle.pg_playing.specs.declared.note.Note.TheVariants as notes
 use Rattle.pg_playing.specs.declared.dialogue.TheConstants.{MAX_HEARD}
 
 -- where a log is, after these events, and after so many lines: the board is to be shown; a line is
--- to be heard; an answer that changes nothing is to be printed; or the game has ended or is left
+-- to be heard; an answer that changes nothing is to be printed; the input has ended, and the
+-- prompt's line is to be ended; or the game has ended or is left
 pub data Stage : Type 0 where
   Shows : (events : List Event) (heard : ℕ) → Stage
   Listens : (events : List Event) (heard : ℕ) → Stage
   Notes : (events : List Event) (heard : ℕ) (note : Note) → Stage
+  Leaves : (events : List Event) → Stage
   Closes : (events : List Event) → Stage
 
 -- the events of a stage
@@ -26,6 +28,7 @@ abbrev pub events_at : Stage → List Event
 events_at (Shows events heard) = events
 events_at (Listens events heard) = events
 events_at (Notes events heard note) = events
+events_at (Leaves events) = events
 events_at (Closes events) = events
 
 -- the position after these events
@@ -67,6 +70,7 @@ after_reply g events heard reply.Undo = after_undo g events heard
 after_reply g events heard (reply.Lines through) = Notes events heard (note_of_lines g through)
 after_reply g events heard reply.Help = Notes events heard notes.Help
 after_reply g events heard reply.Quit = Closes events
+after_reply g events heard reply.NoCell = Notes events heard (notes.Refused faults.NoPoint)
 after_reply g events heard reply.Unclear =
     Notes events heard (notes.Refused faults.NoNumber)
 
@@ -90,19 +94,12 @@ Steps look g (Listens events heard) (Heard line) next =
     next ≡ after_reply g events (heard + 1) (read_reply g.field (trimmed line))
 Steps look g (Listens events heard) (Skipped line) next =
     next ≡ Notes events (heard + 1) (notes.Refused faults.NoNumber)
-Steps look g (Listens events heard) Ended next = next ≡ Closes events
+Steps look g (Listens events heard) Ended next = next ≡ Leaves events
 Steps look g (Notes events heard note) (Said text) next =
     (text ≡ answer_text g (place g events) note) × (next ≡ after_answer events heard)
+Steps look g (Leaves events) (Said text) next = (text ≡ codes "\n") × (next ≡ Closes events)
 Steps look g stage entry next = ⊥
 
 -- the entries are the log of a game at a table, from the game's position, as far as this stage
 abbrev pub IsLogTo : Look → Game → List Entry → Stage → Type 0
 IsLogTo look g entries stage = LeadsBy (Steps look g) (Shows [] 0) entries stage
-
--- the entries are a whole log, after which these events stand
-abbrev pub IsWholeLog : Look → Game → List Entry → List Event → Type 0
-IsWholeLog look g entries events = IsLogTo look g entries (Closes events)
-
--- the entries are the beginning of a log
-abbrev pub IsBegunLog : Look → Game → List Entry → Type 0
-IsBegunLog look g entries = (stage : Stage) × IsLogTo look g entries stage

@@ -1,9 +1,10 @@
 //! The dialogue at a table: boards are shown, and lines are heard and answered.
-ghost use Rattle.std.specs.Prelude.{◌≡◌, ◌<◌, ℕ, ◌+◌, [], length, IfOk};
-ghost use Rattle.pg_playing.specs.Prelude.{Causes, IsMadeForGame, MAX_EVENTS, reason_of};
+ghost use Rattle.std.specs.Prelude.{◌≡◌, ◌<◌, ℕ, ◌+◌, List, [], length, IfOk};
+ghost use Rattle.pg_playing.specs.Prelude.{Causes, Event, Game, IsMadeForGame, Look, MAX_EVENTS};
+ghost use Rattle.pg_playing.specs.Prelude.{reason_of};
 ghost use Rattle.pg_playing.specs.Courses.{Goes};
-ghost use Rattle.pg_playing.specs.TableLog.{Closes, Listens, Notes, Shows, Steps, after_reply};
-ghost use Rattle.pg_playing.specs.TableLog.{after_shown, note_of_lines};
+ghost use Rattle.pg_playing.specs.TableLog.{Closes, Leaves, Listens, Notes, Shows, Steps};
+ghost use Rattle.pg_playing.specs.TableLog.{after_reply, after_shown, note_of_lines};
 ghost use Rattle.pg_playing.specs.Turns.{Changes, turned};
 
 use crate::note::Note;
@@ -211,8 +212,20 @@ fn answer_line<C: Console>(
             note(alloc, table, session, lines, console)
         }
         Reply::Help => note(alloc, table, session, Note::Help, console),
+        Reply::NoCell => refuse(alloc, table, session, ReplyFault::NoPoint, console),
         Reply::Unclear => refuse(alloc, table, session, ReplyFault::NoNumber, console),
     }
+}
+
+/// Ends the prompt's line, as no line was typed.
+fn leave<C: Console>(console: &mut C) -> Result<Turn, Stop>
+    ensures course { (look : Look) → (g : Game) → (events : List Event) → (heard : ℕ)
+        → Goes (Steps look g) (C.told console.old) (C.told console.new) (Leaves events) result
+        (λ turn. turned events heard turn) }
+    ensures causes { Causes ⊥ (C.told console.old).faults (C.told console.new).faults result }
+{
+    say_text(console, "\n")?;
+    Ok(Turn::Ended)
 }
 
 /// Hears a line and does what it asks for.
@@ -239,7 +252,7 @@ fn take_turn<C: Console>(
             answer_line(alloc, table, session, reply, console)
         }
         Ok(Heard::Long) => refuse(alloc, table, session, ReplyFault::NoNumber, console),
-        Ok(Heard::End) => Ok(Turn::Ended),
+        Ok(Heard::End) => leave(console),
         Err(_) => Err(Stop::Read),
     }
 }

@@ -33,7 +33,7 @@ fn why_of(fault: ReplyFault) -> &'static str
 }
 
 /// Adds an answer. An error means that memory ran out.
-pub(crate) fn put_note(
+pub fn put_note(
     out: &mut String,
     game: &Game,
     position: &Position,

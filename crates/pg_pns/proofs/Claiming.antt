@@ -11,16 +11,16 @@ use Rattle.pg_pns.proofs.Common.{IsPruned, IsUsed, Renumbers, is_none, one_at, f
 use Rattle.pg_pns.proofs.Common.{same_some}
 use Rattle.pg_cert.specs.declared.node.Body.TheVariants.{All as AllReplies}
 use Rattle.pg_pns.proofs.ValidNodes.{valid-claim, within-limits, of-version}
-use Rattle.pg_pns.specs.declared.known.Answered.{Answered}
-use Rattle.pg_pns.specs.declared.table.Table.{Table}
-use Rattle.pg_pns.specs.Claims.{nodes_of}
+use Rattle.pg_met.specs.declared.known.Answered.{Answered}
+use Rattle.pg_met.specs.declared.table.Table.{Table}
+use Rattle.pg_met.specs.Claims.{nodes_of}
 use Rattle.pg_game.specs.Decided.{first_criterion}
 use Rattle.pg_base.specs.Sets.{IsMarked}
 use Rattle.pg_pns.specs.Search.{Follows, IsSearch}
 use Rattle.pg_pns.specs.Found.{IsClaimOf}
 use Rattle.pg_leaf.proofs.KeptNodes.{names-earlier, renumbers-names}
 use Rattle.std.proofs.Common.{add-one}
-use Rattle.pg_pns.proofs.Showing.{number_of}
+use Rattle.pg_met.proofs.Showing.{number_of}
 
 side-fewer : (nodes : Bool → List Node) (b : Bool) (n : ℕ) (total : ℕ)
     → length (nodes true) + length (nodes false) + n ≡ total

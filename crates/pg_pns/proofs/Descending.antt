@@ -7,17 +7,17 @@ use Rattle.pg_pns.proofs.Common.{take_more, Contains-get_or, slice_get_within, s
 use Rattle.pg_pns.proofs.Common.{get_or_from_slice_get, slice_get_read, All, Contains, Score, Game}
 use Rattle.pg_pns.proofs.Common.{Position, free_points, start, after, Stand, View}
 use Rattle.pg_pns.proofs.Common.{length-free_points-after, in_free_points, some≢none, contains_push}
-use Rattle.pg_pns.specs.declared.known.Answered.{Answered}
-use Rattle.pg_pns.specs.declared.table.Table.{Table}
+use Rattle.pg_met.specs.declared.known.Answered.{Answered}
+use Rattle.pg_met.specs.declared.table.Table.{Table}
 use Rattle.pg_pns.specs.Descent.{IsOpenMove, HasOpen, IsOnWay, IsStep, IsAtStart, GoesDown}
 use Rattle.pg_pns.specs.Descent.{IsFromStart, KeepsFirst, first_stand, free_at}
 use Rattle.pg_pns.specs.Prelude.{Switching}
-use Rattle.pg_pns.specs.Known.{answer_at}
-use Rattle.pg_pns.specs.Settles.{by_answers}
+use Rattle.pg_met.specs.Known.{answer_at}
+use Rattle.pg_met.specs.Settles.{by_answers}
 use Rattle.pg_pns.specs.Search.{IsSearch, IsNext}
 use Rattle.pg_pns.specs.Search.IsNext.{at_root, below}
 use Rattle.pg_pns.proofs.Closing.{open-move}
-use Rattle.pg_pns.proofs.SettleLaws.{Contains-map, option_cases}
+use Rattle.pg_met.proofs.SettleLaws.{Contains-map, option_cases}
 
 -- ---- moves without an answer
 

@@ -2,13 +2,13 @@
 use Rattle.std.proofs.Common.{◌≡◌, ℕ, ◌<◌, ◌≤◌, Option, Some, None, List, [], ◌∷◌, ◌++◌, length}
 use Rattle.std.proofs.Common.{refl, sym, subst, slice_get}
 use Rattle.pg_pns.proofs.Common.{Position, Game, Score, at_contains, at_new}
-use Rattle.pg_pns.specs.declared.known.Answered.{Answered}
-use Rattle.pg_pns.specs.declared.table.Table.{Table}
+use Rattle.pg_met.specs.declared.known.Answered.{Answered}
+use Rattle.pg_met.specs.declared.table.Table.{Table}
 use Rattle.pg_pns.specs.Search.{IsSearch}
-use Rattle.pg_pns.specs.Settles.{IsSettledAt, IsLeftOpen}
-use Rattle.pg_pns.specs.Table.{Agree, Grow}
+use Rattle.pg_met.specs.Settles.{IsSettledAt, IsLeftOpen}
+use Rattle.pg_met.specs.Table.{Agree, Grow}
 use Rattle.pg_pns.proofs.Searching.{settled-search}
-use Rattle.pg_pns.proofs.Showing.{shown-set, shown-open}
+use Rattle.pg_met.proofs.Showing.{shown-set, shown-open}
 use Rattle.pg_pns.proofs.Spreading.{agree-open, agree-settled, grow-settled}
 
 -- a place that is due is one of the table

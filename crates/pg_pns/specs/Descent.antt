@@ -3,9 +3,9 @@ use Rattle.std.specs.Prelude.{◌≡◌, ◌≢◌, ◌<◌, ℕ, true, List, []
 use Rattle.std.specs.Prelude.{slice_get, ◌⊎◌}
 use Rattle.pg_pns.specs.Prelude.{Contains, Game, Position, is_free, free_points, point_count, start}
 use Rattle.pg_pns.specs.Prelude.{after, Stand, Switching, View}
-use Rattle.pg_pns.specs.declared.known.Answered.{Answered}
-use Rattle.pg_pns.specs.declared.table.Table.{Table}
-use Rattle.pg_pns.specs.Known.{answer_at}
+use Rattle.pg_met.specs.declared.known.Answered.{Answered}
+use Rattle.pg_met.specs.declared.table.Table.{Table}
+use Rattle.pg_met.specs.Known.{answer_at}
 
 -- ---- moves
 

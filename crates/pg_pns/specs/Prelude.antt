@@ -7,7 +7,7 @@ pub use Rattle.pg_base.specs.declared.side.Side.TheVariants.{X, Y}
 pub use Rattle.pg_board.specs.Board.{Stand, View}
 pub use Rattle.pg_cert.specs.Limits.{IsClaim, IsNode, IsOfVersion, IsTurn, has_body}
 pub use Rattle.pg_cert.specs.Node.{position_of}
-pub use Rattle.pg_cert.specs.Valid.{HasWeaker, IsInGame, IsNodeOf, IsValidClaim, Passes}
+pub use Rattle.pg_cert.specs.Valid.{HasWeaker, IsInGame, IsValidClaim, Passes}
 pub use Rattle.pg_cert.specs.declared.cert.Claim.{Claim}
 pub use Rattle.pg_cert.specs.declared.cert.Version.TheVariants.{One}
 pub use Rattle.pg_cert.specs.declared.limits.TheConstants.{MAX_CLAIM_NODES}
@@ -15,8 +15,7 @@ pub use Rattle.pg_cert.specs.declared.node.Body.{Body}
 pub use Rattle.pg_cert.specs.declared.node.Body.TheVariants.{Cuts, Move, Over, Pairs, Potential}
 pub use Rattle.pg_cert.specs.declared.node.Body.TheVariants.{Threat, Trees, Weaker}
 pub use Rattle.pg_cert.specs.declared.node.Node.{Node}
-pub use Rattle.pg_cert.specs.declared.reply.Reply.{Reply}
-pub use Rattle.pg_game.specs.Decided.{IsQuestion, answer_for, claimed_goal, claimer, decided}
+pub use Rattle.pg_game.specs.Decided.{answer_for, claimed_goal, claimer, decided}
 pub use Rattle.pg_game.specs.Game.{IsPosition, after, bias_of, is_over, lines_of, point_count}
 pub use Rattle.pg_game.specs.Game.{start, with_turn}
 unfoldable pub use Rattle.pg_game.specs.Game.{free_points}
@@ -27,11 +26,10 @@ unfoldable pub use Rattle.pg_game.specs.Settled.{by_moves}
 pub use Rattle.pg_game.specs.declared.game.Game.{Game}
 pub use Rattle.pg_game.specs.declared.position.Position.{Position}
 pub use Rattle.pg_leaf.specs.At.{IsAt}
-pub use Rattle.pg_leaf.specs.Leaf.{IsLeaf, criterion_of, first_criterion}
+pub use Rattle.pg_leaf.specs.Leaf.{criterion_of, first_criterion}
 pub use Rattle.pg_leaf.specs.Pruned.{AreMarked, IsMoved, IsPruned, IsUsed, Renumbers}
 pub use Rattle.pg_leaf.specs.Sound.{BodyHolds, NodesHold}
 pub use Rattle.pg_match.specs.Cache.{Cache, Fits}
-pub use Rattle.std.specs.HashMap.{get}
 pub use Rattle.std.specs.List.{All, Contains, count_by, filter, list_all, list_any, range_with_len}
 pub use Rattle.std.specs.List.{sum_by}
 pub use Rattle.std.specs.Map.{keys_of, lookup}

@@ -3,15 +3,16 @@ ghost use Rattle.std.specs.Prelude.{◌≡◌, ◌≤◌, ◌*◌, IfOk, length}
 ghost use Rattle.pg_pns.specs.Prelude.{free_points, lines_of, start, Fits};
 ghost use Rattle.pg_pns.specs.Budget.{budget_for, most_for};
 ghost use Rattle.pg_pns.specs.Found.{IsAnswer, IsWorkOf};
-ghost use Rattle.pg_pns.specs.Reading.{IsAskedOf, IsBudget};
+ghost use Rattle.pg_met.specs.Reading.{IsAskedOf};
+ghost use Rattle.pg_pns.specs.Reading.{IsBudget};
 
-use crate::asked::Asked;
 use crate::expansion::explore;
 use crate::limits::{MAX_EXPANDED_MOVES, MAX_SEARCH_ANSWERS};
 use crate::work::{Found, Work};
 use pg_base::{Memory, Score};
 use pg_game::Game;
 use pg_match::PairCache;
+use pg_met::Asked;
 use std::alloc::Global;
 
 /// How many positions may be expanded where so many points are free.

@@ -5,15 +5,14 @@ ghost use Rattle.std.specs.Prelude.{◌≢◌, true};
 ghost use Rattle.pg_pns.specs.Prelude.{All, Score, Game, Position, Switching};
 ghost use Rattle.pg_pns.specs.Descent.{IsOpenMove, HasOpen, IsAtStart, first_stand};
 ghost use Rattle.pg_pns.specs.Descent.{IsFromStart, KeepsFirst};
-ghost use Rattle.pg_pns.specs.Known.{answer_at};
+ghost use Rattle.pg_met.specs.Known.{answer_at};
 ghost use Rattle.pg_pns.specs.Search.{IsSearch, IsNext};
 
 use crate::guide::Guide;
-use crate::known::Answered;
-use crate::table::Table;
 use crate::way::Way;
 use pg_board::Board;
 use pg_leaf::Key;
+use pg_met::{Answered, Table};
 
 /// The first of the moves without an answer.
 fn first_open(moves: &[(u16, u32)], answers: &[Option<Answered>]) -> Option<(u16, u32)>

@@ -7,21 +7,17 @@ ghost use Rattle.pg_pns.specs.Prelude.{IsTable, keys_of, Contains, MAX_CLAIM_NOD
 ghost use Rattle.pg_game.specs.Decided.{claimer as claimer_of, claimed_goal as claimed_by};
 ghost use Rattle.pg_pns.specs.Found.{IsAnswer};
 ghost use Rattle.pg_pns.specs.Descent.{IsFromStart};
-ghost use Rattle.pg_pns.specs.Known.{answer_at};
-ghost use Rattle.pg_pns.specs.Reading.{IsAskedOf, IsExpansion, IsKept, IsMoveAt, IsReadAt};
+ghost use Rattle.pg_met.specs.Known.{answer_at};
+ghost use Rattle.pg_met.specs.Reading.{IsAskedOf, IsExpansion, IsKept, IsMoveAt, IsReadAt};
 ghost use Rattle.pg_pns.specs.Reading.{IsReadAtStart, IsReadFromStart};
 ghost use Rattle.pg_pns.specs.Expanded.{IsListed};
 ghost use Rattle.pg_pns.specs.Search.{IsSearch, CanGoOn, CanGrow, GoesOn, IsGrowing};
 ghost use Rattle.pg_pns.specs.Search.{IsRootFound};
 ghost use Rattle.pg_pns.specs.declared.limits.TheConstants.{MAX_EXPANDED_MOVES};
 
-use crate::asked::Asked;
 use crate::descent::go_down;
 use crate::guide::Guide;
-use crate::known::Answered;
-use crate::lists::{Moves, Places};
 use crate::settle::settle_from;
-use crate::table::{Expansion, Table, meet_after};
 use crate::work::Found;
 use indexmap::IndexMap;
 use pg_base::{Goal, Kind, Memory, Score, Side};
@@ -29,6 +25,7 @@ use pg_board::Board;
 use pg_cert::{Claim, Nodes};
 use pg_leaf::{Ahead, Key, leaf, order_of, prune};
 use pg_match::PairCache;
+use pg_met::{Answered, Asked, Expansion, Moves, Places, Table, meet_after};
 use std::alloc::Global;
 
 /// Adds a place before the place.

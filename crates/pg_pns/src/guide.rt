@@ -2,13 +2,12 @@
 ghost use Rattle.std.specs.Prelude.{◌≡◌, ◌<◌, ◌≤◌, IfSome, IsTrue, None, length};
 ghost use Rattle.pg_pns.specs.Prelude.{All, MAX_CLAIM_NODES};
 ghost use Rattle.pg_pns.specs.Descent.{IsOpenMove};
-ghost use Rattle.pg_pns.specs.Known.{answer_at};
+ghost use Rattle.pg_met.specs.Known.{answer_at};
 
-use crate::known::Answered;
 use crate::numbers::{Numbers, fresh_numbers, numbers_at};
-use crate::table::Table;
 use crate::way::Way;
 use pg_base::{Memory, Side};
+use pg_met::{Answered, Table};
 use std::alloc::Global;
 
 /// The numbers of the positions met, and the orders in which the moves of those that are expanded

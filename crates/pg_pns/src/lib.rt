@@ -2,20 +2,14 @@
 //! shows the answer.
 #![tactic(auto)]
 
-mod asked;
 mod calls;
-mod claims;
 mod descent;
 mod expansion;
 mod guide;
-mod known;
 pub mod laws;
 mod limits;
-mod lists;
-mod met;
 mod numbers;
 mod settle;
-mod table;
 mod way;
 mod work;
 

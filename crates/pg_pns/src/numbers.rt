@@ -1,6 +1,6 @@
 //! Proof and disproof numbers (Allis, van der Meulen and van den Herik, Proof-Number Search, 1994).
-use crate::known::Answered;
 use pg_base::Side;
+use pg_met::Answered;
 
 /// How many positions at least have to be settled before the answer is yes, and before it is no.
 #[derive(Clone, Copy, Debug, PartialEq, Eq)]

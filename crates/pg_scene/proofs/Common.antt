@@ -14,7 +14,7 @@ pub use Rattle.pg_game.proofs.LineSums.{length-le-greatest, line_weight-clear, l
 pub use Rattle.pg_game.proofs.WeightBounds.{IsBaseOf-bias, IsBaseOf-two, greatest_length-few}
 pub use Rattle.pg_game.proofs.WeightBounds.{line-fit}
 pub use Rattle.std.proofs.Math.Nat.{mul-div_cancel_left, one-le-pow, pow-le-pow_right}
-pub use Rattle.std.proofs.lemmas.Bool.{and_parts, cases_Bool}
+pub use Rattle.std.proofs.lemmas.Bool.{and_parts, cases_Bool, eqb-true}
 pub use Rattle.std.proofs.lemmas.Bool.Decides.{nat_tests}
 pub use Rattle.std.proofs.lemmas.List.{append-nil, at_drop_more, length-append, length-take-le}
 pub use Rattle.std.proofs.lemmas.List.{map-append, take_more}

@@ -4,7 +4,8 @@ use Rattle.std.proofs.Common.{[], ◌∷◌, ◌++◌, length, take, get_or, Opt
 use Rattle.std.proofs.Common.{ap, ◌∙◌, inl, inr, subst, true≢false, arith}
 use Rattle.std.specs.Prelude.{codes, nat_lt, ◌==◌}
 use Rattle.pg_scene.proofs.Common.{FinSet, decimal, All, AllByRecursion, flat_map, range_with_len}
-use Rattle.pg_scene.proofs.Common.{nat_cmp, and_parts, cases_Bool, nat_tests, length-append}
+use Rattle.pg_scene.proofs.Common.{nat_cmp, and_parts, cases_Bool, eqb-true, nat_tests}
+use Rattle.pg_scene.proofs.Common.{length-append}
 use Rattle.pg_scene.proofs.Common.{flat_map-cons, All-append, All-map, All-nil, Contains-get_or}
 use Rattle.pg_scene.proofs.Common.{points_below, Kind, Pair, Side, position_of, Claim, Node, Body}
 use Rattle.pg_scene.proofs.Common.{Reply, field_points, AreLinesOf, FieldFits, IsFit, IsLineOf}
@@ -12,6 +13,7 @@ use Rattle.pg_scene.proofs.Common.{is_graph, longest, free_points, lines_of, poi
 use Rattle.pg_scene.proofs.Common.{Field, Lines, Game, Position, line-fit}
 use Rattle.std.proofs.lemmas.List.FromFn.{get_or-range_with_len, length-range_with_len}
 use Rattle.pg_base.specs.declared.grid.Grid.{Grid as Cells}
+use Rattle.pg_layout.specs.declared.chart.Chart.{Chart}
 use Rattle.pg_base.proofs.MemberLemmas.{points_below-small}
 use Rattle.pg_cert.specs.declared.node.Body.TheVariants as bodies
 use Rattle.pg_game.specs.declared.field.Field.TheVariants.{Graph as OnGraph}
@@ -22,7 +24,8 @@ use Rattle.pg_scene.specs.Items.{seen_at, seen_if, set_items, step_item, units, 
 use Rattle.pg_scene.specs.Limits.{IsBoard, IsItemOn, IsScene, points_on, terminals_on}
 use Rattle.pg_scene.specs.Recorded.{IsSceneOfMoves, move_items, moves_by, order_if}
 use Rattle.pg_scene.specs.Recorded.{order_lines}
-use Rattle.pg_scene.specs.Scenes.{IsBoardOf, IsSceneOf, IsSceneOfGame, line_board}
+use Rattle.pg_scene.specs.Scenes.{IsBoardOf, IsSceneOf, IsSceneOfGame, laid_board}
+use Rattle.pg_scene.specs.Scenes.{line_board}
 use Rattle.pg_scene.specs.Legends.{bias_line, board_lines, body_lines, fault_lines, field_line}
 use Rattle.pg_scene.specs.Legends.{game_by}
 use Rattle.pg_scene.specs.Legends.{game_legend, marks_line, node_by, node_legend, node_lines}
@@ -209,24 +212,49 @@ board-line (Some cells) points h some few =
     let whole = h cells refl in
     (omega (arith, whole, some), omega (arith, whole, few))
 
+count-laid : (layout : Option Chart) (grid : Option Cells) (points : ℕ)
+    → ((cells : Cells) → grid ≡ Some cells → cells.width * cells.height ≡ points)
+    → points_on (laid_board layout grid points) ≡ points
+count-laid None grid points h = count-line grid points h
+count-laid (Some chart) (Some cells) points h = count-line (Some cells) points h
+count-laid (Some chart) None points h = elim (cases_Bool (chart.count == points)) [
+  | inl same ↦ rw same (eqb-true chart.count points same)
+  | inr other ↦ rw other refl
+]
+
+board-laid : (layout : Option Chart) (grid : Option Cells) (points : ℕ)
+    → ((cells : Cells) → grid ≡ Some cells → cells.width * cells.height ≡ points)
+    → 1 ≤ points
+    → points ≤ 256
+    → IsBoard (laid_board layout grid points)
+board-laid None grid points h some few = board-line grid points h some few
+board-laid (Some chart) (Some cells) points h some few =
+    board-line (Some cells) points h some few
+board-laid (Some chart) None points h some few = elim (cases_Bool (chart.count == points)) [
+  | inl same ↦
+      let is = eqb-true chart.count points same in
+      rw same (omega (arith, is, some), omega (arith, is, few))
+  | inr other ↦ rw other (some, few)
+]
+
 record Fitting (field : Field) (board : Board) : Type 0 where
   pub is_board : IsBoard board
   pub points : points_on board ≡ field_points field
   pub two : is_graph field ≡ true → terminals_on board ≡ 2
 
-fitting : (kind : Kind) (bias : ℕ) (field : Field) (board : Board)
+fitting : (kind : Kind) (bias : ℕ) (layout : Option Chart) (field : Field) (board : Board)
     → FieldFits kind field bias
-    → IsBoardOf field board
+    → IsBoardOf layout field board
     → Fitting field board
-fitting kind bias (Lines f) board fits is =
+fitting kind bias layout (Lines f) board fits is =
     let within : AreLinesOf bias f = fits.on_lines f refl in
     record {
       is_board = subst IsBoard (sym is)
-          (board-line f.grid f.points within.cells within.some_points within.few_points);
-      points = ap points_on is ∙ count-line f.grid f.points within.cells;
+          (board-laid layout f.grid f.points within.cells within.some_points within.few_points);
+      points = ap points_on is ∙ count-laid layout f.grid f.points within.cells;
       two = λ h. absurd (true≢false (sym h));
     }
-fitting kind bias (OnGraph h) board fits is =
+fitting kind bias layout (OnGraph h) board fits is =
     let within = fits.on_graph h refl in
     record {
       is_board = subst IsBoard (sym is.same) (record {
@@ -243,10 +271,12 @@ fitting kind bias (OnGraph h) board fits is =
       two = λ _. ap terminals_on is.same;
     }
 
-fitting-game : (g : Game) (board : Board) → IsBoardOf g.field board → Fitting g.field board
-fitting-game g board is =
+fitting-game : (g : Game) (layout : Option Chart) (board : Board)
+    → IsBoardOf layout g.field board
+    → Fitting g.field board
+fitting-game g layout board is =
     let fits : IsFit g.kind g.field g.x g.y g.bias = g.fits in
-    fitting g.kind g.bias g.field board fits.within is
+    fitting g.kind g.bias layout g.field board fits.within is
 
 -- ---- scenes
 
@@ -334,7 +364,7 @@ pub IsScene-game : (look : Look) (g : Game) (scene : Scene)
     → IsSceneOfGame look g scene
     → IsScene scene
 IsScene-game look g scene is =
-    let fit = fitting-game g scene.board is.board in
+    let fit = fitting-game g look.layout scene.board is.board in
     let le : point_count g ≤ points_on scene.board = omega (arith, fit.points) in
     let p = seen_at look.blank (start g) in
     record {
@@ -353,7 +383,7 @@ pub IsScene-node : (look : Look) (g : Game) (claim : Claim) (number : ℕ) (node
     → IsSceneOf look g claim number node fault scene
     → IsScene scene
 IsScene-node look g claim number node fault scene is =
-    let fit = fitting-game g scene.board is.board in
+    let fit = fitting-game g look.layout scene.board is.board in
     let on = IsItemOn scene.board in
     let le : point_count g ≤ points_on scene.board = omega (arith, fit.points) in
     let body = body_items g (position_of node) claim.side node.body in
@@ -383,7 +413,7 @@ pub IsScene-moves : (look : Look) (g : Game) (p : Position) (over : Bool) (moves
     → IsSceneOfMoves look g p over moves scene
     → IsScene scene
 IsScene-moves look g p over moves scene is =
-    let fit = fitting-game g scene.board is.board in
+    let fit = fitting-game g look.layout scene.board is.board in
     let on = IsItemOn scene.board in
     let n = point_count g in
     let le : n ≤ points_on scene.board = omega (arith, fit.points) in

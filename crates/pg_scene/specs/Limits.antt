@@ -7,7 +7,7 @@ use Rattle.pg_game.specs.declared.bounds.TheConstants.{MAX_POINTS, MAX_LINE_POIN
 use Rattle.pg_gen.specs.Bridge.{bridge_ends, has_bridge}
 use Rattle.pg_graph.specs.declared.graph.Graph.{Graph as Multigraph}
 use Rattle.pg_scene.specs.declared.board.Board.{Board}
-use Rattle.pg_scene.specs.declared.board.Board.TheVariants.{Grid, Ring, Graph}
+use Rattle.pg_scene.specs.declared.board.Board.TheVariants.{Grid, Ring, Laid, Graph}
 use Rattle.pg_scene.specs.declared.item.Item.{Item}
 use Rattle.pg_scene.specs.declared.item.Item.TheVariants.{Point, Line, Pair, Weight, Member, Extra}
 use Rattle.pg_scene.specs.declared.item.Item.TheVariants.{Step, Move, Reply, Part, Fault}
@@ -41,24 +41,29 @@ pub record IsGraphBoard (vertices : ℕ) (ends : List (ℕ × ℕ)) (terminals :
 abbrev pub IsBoard : Board → Type 0
 IsBoard (Grid width height) = (1 ≤ width * height) × (width * height ≤ MAX_POINTS)
 IsBoard (Ring points) = (1 ≤ points) × (points ≤ MAX_POINTS)
+IsBoard (Laid chart) = (1 ≤ chart.count) × (chart.count ≤ MAX_POINTS)
 IsBoard (Graph vertices ends terminals bridge) = IsGraphBoard vertices ends terminals bridge
 
--- how many points a board has: its cells, the places of its ring, or its edges
+-- how many points a board has: its cells, the places of its ring or of its
+-- layout, or its edges
 abbrev pub points_on : Board → ℕ
 points_on (Grid width height) = width * height
 points_on (Ring points) = points
+points_on (Laid chart) = chart.count
 points_on (Graph vertices ends terminals bridge) = length ends
 
 -- how many vertices it has
 abbrev pub vertices_on : Board → ℕ
 vertices_on (Grid width height) = 0
 vertices_on (Ring points) = 0
+vertices_on (Laid chart) = 0
 vertices_on (Graph vertices ends terminals bridge) = vertices
 
 -- how many terminals
 abbrev pub terminals_on : Board → ℕ
 terminals_on (Grid width height) = 0
 terminals_on (Ring points) = 0
+terminals_on (Laid chart) = 0
 terminals_on (Graph vertices ends terminals bridge) = length terminals
 
 -- an item that can stand on the board

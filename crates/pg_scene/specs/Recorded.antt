@@ -48,7 +48,7 @@ moves_by Whole look g p over moves =
 pub record IsSceneOfMoves (look : Look) (g : Game) (p : Position) (over : Bool) (moves : List ℕ)
     (scene : Scene) : Type 0 where
   pub title : scene.title ≡ moves_title g.kind (length moves)
-  pub board : IsBoardOf g.field scene.board
+  pub board : IsBoardOf look.layout g.field scene.board
   pub items : scene.items
       ≡ point_items (point_count g) p
       ++ (line_items look.lines (lines_of g) ++ move_items (point_count g) moves)

@@ -1,6 +1,7 @@
 //! What a picture's items stand on.
 use pg_base::Points;
 use pg_graph::Ends;
+use pg_layout::Chart;
 
 /// What a game's points are drawn as.
 #[derive(Debug, Drop)]
@@ -17,6 +18,11 @@ pub enum Board {
     Ring {
         /// How many points there are.
         points: u32,
+    },
+    /// Points at the places of a layout.
+    Laid {
+        /// The place of each point.
+        chart: Chart,
     },
     /// The edges of a multigraph, numbered from 0.
     Graph {

@@ -1,7 +1,7 @@
 //! The boards of games.
 ghost use Rattle.std.specs.Prelude.{◌≡◌, ◌≤◌, ◌↔◌, ◌∷◌, [], ℕ, IfOk, IfSome, IfNone, IsTrue};
 ghost use Rattle.pg_scene.specs.Limits.{IsBridge, IsSized};
-ghost use Rattle.pg_scene.specs.Scenes.{IsBoardOf, IsDrawnGraph, line_board};
+ghost use Rattle.pg_scene.specs.Scenes.{IsBoardOf, IsDrawnGraph, laid_board, line_board};
 ghost use Rattle.pg_gen.specs.declared.limits.TheConstants.{MAX_BRIDGE_ROWS};
 
 use crate::board::Board;
@@ -9,6 +9,7 @@ use pg_base::{Memory, Points};
 use pg_game::{Field, LineField};
 use pg_gen::{MAX_BRIDGE_ROWS, bridge};
 use pg_graph::{Ends, Graph};
+use pg_layout::Chart;
 use std::alloc::Global;
 
 /// Whether the edges have the same ends in the same order.
@@ -107,12 +108,25 @@ fn line_board(field: &LineField) -> Board
     }
 }
 
-/// The board of what a game is played on.
-pub(crate) fn board_of(alloc: Global, field: &Field) -> Result<Board, Memory>
-    ensures { IfOk result (IsBoardOf field.now) }
+/// The board of points with a layout: without a grid they are at its places, if it has as many.
+fn laid_board(layout: Option<Chart>, field: &LineField) -> Board
+    ensures { result ≡ laid_board layout field.now.grid field.now.points }
+{
+    let Some(chart) = layout else {
+        return line_board(field);
+    };
+    match field.grid {
+        None if chart.points() == field.points => Board::Laid { chart },
+        _ => line_board(field),
+    }
+}
+
+/// The board of what a game is played on, where a layout may say the places of its points.
+pub(crate) fn board_of(alloc: Global, layout: Option<Chart>, field: &Field) -> Result<Board, Memory>
+    ensures { IfOk result (IsBoardOf layout field.now) }
 {
     match field {
-        Field::Lines(on) => Ok(line_board(on)),
+        Field::Lines(on) => Ok(laid_board(layout, on)),
         Field::Graph(graph) => graph_board(alloc, graph),
     }
 }

@@ -2,6 +2,8 @@
 ghost use Rattle.std.specs.Prelude.{◌≡◌};
 ghost use Rattle.pg_scene.specs.Look.{whole_look};
 
+use pg_layout::Chart;
+
 /// How much a legend says.
 #[derive(Clone, Copy, Debug, PartialEq, Eq)]
 pub enum Legend {
@@ -14,7 +16,7 @@ pub enum Legend {
 }
 
 /// What is shown of a game or of a node, as options say it.
-#[derive(Clone, Copy, Debug, PartialEq, Eq)]
+#[derive(Clone, Copy, Debug)]
 pub struct Look {
     /// Whether points, edges and vertices have their numbers.
     pub numbers: bool,
@@ -26,6 +28,9 @@ pub struct Look {
     pub size: Option<u32>,
     /// How many boards without marks are drawn in place of a game; none for the game itself.
     pub blank: Option<u32>,
+    /// Where the points of a game on lines without a grid lie, if there is a place for each; a ring
+    /// if none is given, or for another number of points.
+    pub layout: Option<Chart>,
 }
 
 impl Look {
@@ -39,6 +44,7 @@ impl Look {
             legend: Legend::Whole,
             size: None,
             blank: None,
+            layout: None,
         }
     }
 }

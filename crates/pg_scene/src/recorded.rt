@@ -123,7 +123,7 @@ pub fn scene_of_moves(
     ensures { IfOk result (IsSceneOfMoves look game.now p.now over moves.now) }
 {
     let title = moves_title(alloc, game.kind, moves.len())?;
-    let board = board_of(alloc, &game.field)?;
+    let board = board_of(alloc, look.layout, &game.field)?;
     let items = Items::from_vec(moves_items(alloc, look, game, p, moves)?);
     let legend = moves_legend(alloc, look, game, p, over, moves)?;
     Ok(Scene {

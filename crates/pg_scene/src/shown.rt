@@ -50,7 +50,8 @@ fn node_items(
     Ok(Items::from_vec(items))
 }
 
-/// Returns what is to be seen of a game: its board, each point with its mark, and each line if
+/// Returns what is to be seen of a game: its board (at the places of the look's layout, if the game
+/// is on lines without a grid and has as many points), each point with its mark, and each line if
 /// `look` has lines and there are at most 30 of them; or the board without marks, if `look` says
 /// how many blank boards are drawn. The title is the game's kind; the legend, if `look` has it,
 /// says who is to move, how the points of the sides look, how large the game is, and how many lines
@@ -64,7 +65,7 @@ pub fn scene_of_game(alloc: Global, game: &Game, look: Look) -> Result<Scene, Me
 {
     let p = seen_at(look.blank, game.start());
     let title = game_title(alloc, game.kind)?;
-    let board = board_of(alloc, &game.field)?;
+    let board = board_of(alloc, look.layout, &game.field)?;
     let items = Items::from_vec(game_items(alloc, look, game, &p)?);
     let legend = game_legend(alloc, look, game, &p)?;
     Ok(Scene {
@@ -89,7 +90,7 @@ fn node_scene(
 {
     let p = node.position();
     let title = node_title(alloc, g.kind, claim, number, fault)?;
-    let board = board_of(alloc, &g.field)?;
+    let board = board_of(alloc, look.layout, &g.field)?;
     let items = node_items(alloc, look, g, claim.side, node, fault)?;
     let legend = node_legend(alloc, look, g, claim, &p, &node.body, fault)?;
     Ok(Scene {

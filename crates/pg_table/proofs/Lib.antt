@@ -5,3 +5,8 @@ pub mod ReadBack
 pub mod Ranges
 pub mod PaperPlaces
 pub mod PaperEnds
+pub mod Fit
+pub mod Printed
+pub mod PrintedCharts
+pub mod PrintedBoards
+pub mod PrintedLines

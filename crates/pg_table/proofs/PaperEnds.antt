@@ -1,20 +1,18 @@
 -- The ends of the edges of a graph that is drawn as a Bridg-It board.
-use Rattle.std.proofs.Common.{◌≡◌, ◌∙◌, ℕ, ◌+◌, ◌-◌, ◌*◌, ◌/◌, ◌%◌, ◌<◌, ◌≤◌, true, false, refl}
+use Rattle.std.proofs.Common.{◌≡◌, ◌∙◌, ℕ, ◌+◌, ◌*◌, ◌<◌, ◌≤◌, true}
 use Rattle.std.proofs.Common.{suc}
-use Rattle.std.proofs.Common.{sym, ap, ap₂, arith, subst, true≢false}
-use Rattle.std.specs.Prelude.{Option, Some, None, slice_get}
+use Rattle.std.proofs.Common.{sym, ap, ap₂, arith, true≢false}
+use Rattle.std.specs.Prelude.{Option, Some, None}
 use Rattle.std.proofs.Math.Nat.{mul-le-mul_right, suc-mul}
 use Rattle.std.proofs.lemmas.Bool.{and_parts, eqb-true}
 use Rattle.std.proofs.lemmas.Nat.{div-mul-add, mod-mul-add}
-use Rattle.pg_base.specs.declared.side.Side.TheVariants.{X, Y}
 use Rattle.pg_gen.specs.declared.limits.TheConstants.{MAX_BRIDGE_ROWS}
 use Rattle.pg_graph.specs.declared.graph.Graph.{Graph}
 use Rattle.pg_table.specs.Bridges.{are_ends, fits_paper, fits_place, is_bridge, is_sized}
 use Rattle.pg_table.specs.Bridges.{paper_rows}
-use Rattle.pg_table.specs.Bridges.{spot_fits, vertex_at}
+use Rattle.pg_table.specs.Bridges.{spot_fits}
 use Rattle.pg_table.specs.Spots.{span_of, spot_at}
 use Rattle.pg_table.specs.declared.spots.Spot.{Spot}
-use Rattle.pg_table.specs.declared.spots.Spot.TheVariants.{Edge}
 use Rattle.pg_table.proofs.Ranges.{each_passes, found_passes}
 
 -- the graph is the board that is found

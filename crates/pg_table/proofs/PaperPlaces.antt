@@ -1,17 +1,16 @@
 -- The places of the edges of a Bridg-It board on paper.
-use Rattle.std.proofs.Common.{◌≡◌, ◌∙◌, ℕ, ◌+◌, ◌-◌, ◌*◌, ◌/◌, ◌%◌, ◌<◌, ◌≤◌, Bool, true, false}
+use Rattle.std.proofs.Common.{◌≡◌, ◌∙◌, ℕ, ◌+◌, ◌-◌, ◌*◌, ◌/◌, ◌%◌, ◌<◌, ◌≤◌, true, false}
 use Rattle.std.proofs.Common.{refl}
 use Rattle.std.proofs.Common.{suc, sym, ap, ap₂, arith, inl, inr, true≢false, eq-eqb, ne_eqb}
-use Rattle.std.specs.Prelude.{◌==◌, ◌||◌, nat_lt, Option, Some, None}
+use Rattle.std.specs.Prelude.{◌==◌, nat_lt, Some, None}
 use Rattle.std.proofs.Math.Nat.{mul-le-mul_right, suc-mul}
 use Rattle.std.proofs.lemmas.Bool.{cases_Bool, cases_eq, cases_lt, eqb-true, or_parts}
 use Rattle.std.proofs.lemmas.Bool.Decides.{nat_tests}
 use Rattle.std.proofs.lemmas.Nat.{div-add-mod', div-mul-add, mod-mul-add, mod_below}
 use Rattle.std.proofs.lemmas.Option.{none-some, same_Some}
-use Rattle.pg_base.specs.declared.side.Side.TheVariants.{X, Y}
 use Rattle.pg_table.specs.Spots.{edge_column, edge_of, edge_row, edges_on, is_odd, is_outer}
 use Rattle.pg_table.specs.Spots.{span_of}
-use Rattle.pg_table.specs.Spots.{spot_at, spot_between}
+use Rattle.pg_table.specs.Spots.{spot_at}
 
 odd : (k : ℕ) → is_odd (2 * k + 1) ≡ true
 odd k = let rest : (2 * k + 1) % 2 ≡ 1 = omega arith in eq-eqb _ _ rest

@@ -26,6 +26,7 @@ use Rattle.pg_text.specs.Text.{number, two_parts}
 use Rattle.pg_table.specs.Names.{cell_name, column_name, letter}
 use Rattle.pg_table.specs.Reply.{cell_at, field_point, is_letter, named_on}
 use Rattle.pg_table.specs.Reply.{number_or, read_command, read_reply}
+use Rattle.pg_table.specs.declared.reply.Named.TheVariants as named
 use Rattle.pg_table.specs.declared.reply.Reply.TheVariants.{Point}
 
 -- two texts that differ
@@ -57,7 +58,7 @@ no_command text i a b c d = rw (
 reads : (field : Field) (text : Bytes) (v : ℕ)
     → read_command text ≡ None
     → two_parts 32 text ≡ None
-    → field_point field text ≡ Some v
+    → field_point field text ≡ named.Point v
     → read_reply field text ≡ Point v
 reads field text v a b c = rw (a, b, c) refl
 
@@ -119,7 +120,7 @@ one_letter : (f : LineField) (grid : Grid) (c r v : ℕ) (w : Bytes)
     → IsDigit (get_or w 0 0)
     → IsWord w
     → number w ≡ Some r
-    → cell_at grid c (Some r) ≡ Some v
+    → cell_at grid c (Some r) ≡ named.Point v
     → read_reply (Lines f) ((97 + c) ∷ w) ≡ Point v
 one_letter f grid c r v [] on small digit plain row cell = absurd (omega (arith, digit.0))
 one_letter f grid c r v (d ∷ ds) on small digit plain row cell =
@@ -148,7 +149,7 @@ two_letters : (f : LineField) (grid : Grid) (a b c r v : ℕ) (w : Bytes)
     → IsDigit (get_or w 0 0)
     → IsWord w
     → number w ≡ Some r
-    → cell_at grid c (Some r) ≡ Some v
+    → cell_at grid c (Some r) ≡ named.Point v
     → read_reply (Lines f) ((97 + a) ∷ (97 + b) ∷ w) ≡ Point v
 two_letters f grid a b c r v [] on first second sum digit plain row cell =
     absurd (omega (arith, digit.0))
@@ -178,7 +179,7 @@ wide_enough (suc w) h v inside = omega arith
 cell_back : (grid : Grid) (v : ℕ)
     → v < grid.width * grid.height
     → 0 < grid.width
-    → cell_at grid (v % grid.width) (Some (v / grid.width + 1)) ≡ Some v
+    → cell_at grid (v % grid.width) (Some (v / grid.width + 1)) ≡ named.Point v
 cell_back grid v inside some =
     let column : nat_lt (v % grid.width) grid.width ≡ true =
     grind (arith, nat_tests, mod_below v grid.width some) in
@@ -199,7 +200,7 @@ named_cell : (f : LineField) (grid : Grid) (c r v : ℕ)
     → f.grid ≡ Some grid
     → c < 256
     → r < 10 ^ 9
-    → cell_at grid c (Some r) ≡ Some v
+    → cell_at grid c (Some r) ≡ named.Point v
     → read_reply (Lines f) (column_name c ++ decimal r) ≡ Point v
 named_cell f grid c r v on few small cell = go (nat_le 26 c) refl where
   wide : r < 2 ^ 64

@@ -1,21 +1,32 @@
 -- THE TEXT OF A BOARD: a function of the game, the position and the point claimed last.
-use Rattle.std.specs.Prelude.{ℕ, ◌++◌, [], Option, Some, None}
+use Rattle.std.specs.Prelude.{ℕ, ◌++◌, List, [], Option, Some, None}
 use Rattle.pg_base.specs.Texts.{Bytes}
 use Rattle.pg_base.specs.declared.grid.Grid.{Grid}
+use Rattle.pg_game.specs.Game.{point_count}
 use Rattle.pg_game.specs.declared.field.Field.{Field}
 use Rattle.pg_game.specs.declared.field.Field.TheVariants.{Lines, Graph as OnGraph}
 use Rattle.pg_game.specs.declared.game.Game.{Game}
+use Rattle.pg_layout.specs.declared.spot.Spot.{Spot}
 use Rattle.pg_table.specs.Bridges.{paper_rows}
+use Rattle.pg_table.specs.Charts.{chart_text, drawn_by}
 use Rattle.pg_table.specs.Entries.{entries_text}
 use Rattle.pg_table.specs.OpenLines.{lines_text}
 use Rattle.pg_table.specs.Sheets.{sheet_text}
 use Rattle.pg_table.specs.declared.sheets.Sheet.TheVariants.{Cells, Paper}
 use Rattle.pg_table.specs.declared.shown.Shown.{Shown}
 
--- a field of points: a grid of cells, or entries in rows
+-- points that are no cells: at the places of a layout, or entries in rows
+abbrev pub placed_at : Game → Shown → Option (List Spot) → Bytes
+placed_at g s (Some spots) = chart_text spots s
+placed_at g s None = entries_text g s
+
+abbrev pub placed_text : Game → Shown → Bytes
+placed_text g s = placed_at g s (drawn_by (point_count g) s.look.layout)
+
+-- a field of points: a grid of cells, or points that are no cells
 abbrev pub points_picture : Game → Shown → Option Grid → Bytes
 points_picture g s (Some grid) = sheet_text (Cells grid.width grid.height) s
-points_picture g s None = entries_text g s
+points_picture g s None = placed_text g s
 
 -- a graph: the Bridg-It board of so many rows as it is on paper, or entries in rows
 abbrev pub graph_picture : Game → Shown → Option ℕ → Bytes

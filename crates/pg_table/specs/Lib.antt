@@ -1,3 +1,4 @@
+pub mod Columns
 pub mod Names
 pub mod Marks
 pub mod Entries
@@ -5,6 +6,7 @@ pub mod Spots
 pub mod Bridges
 pub mod Paper
 pub mod Sheets
+pub mod Charts
 pub mod OpenLines
 pub mod Board
 pub mod Words

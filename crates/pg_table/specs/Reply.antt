@@ -8,6 +8,8 @@ use Rattle.pg_base.specs.declared.signs.TheConstants.{SPACE}
 use Rattle.pg_game.specs.declared.field.Field.{Field}
 use Rattle.pg_game.specs.declared.field.Field.TheVariants.{Lines, Graph as OnGraph}
 use Rattle.pg_text.specs.Text.{number, two_parts}
+use Rattle.pg_table.specs.declared.reply.Named.{Named}
+use Rattle.pg_table.specs.declared.reply.Named.TheVariants as named
 use Rattle.pg_table.specs.declared.reply.Reply.{Reply}
 use Rattle.pg_table.specs.declared.reply.Reply.TheVariants as reply
 
@@ -20,48 +22,52 @@ abbrev pub has_cell : Grid → ℕ → ℕ → Bool
 has_cell grid column row =
     nat_lt column grid.width && (nat_lt 0 row && nat_le row grid.height)
 
--- the cell in this column, and in the row of this number, if the board has such a cell
-abbrev pub cell_at : Grid → ℕ → Option ℕ → Option ℕ
-cell_at grid column None = None
-cell_at grid column (Some row) =
-    if has_cell grid column row then Some ((row - 1) * grid.width + column) else None
+-- the cell in this column, and in the row of this number
+abbrev pub cell_at : Grid → ℕ → Option ℕ → Named
+cell_at grid column None = named.Nothing
+cell_at grid column (Some row) = if has_cell grid column row
+    then named.Point ((row - 1) * grid.width + column)
+    else named.NoCell
 
 -- the cell whose column has two letters, if the second byte is a letter, else one letter
-abbrev pub after_letter : Grid → ℕ → Bytes → Option ℕ
+abbrev pub after_letter : Grid → ℕ → Bytes → Named
 after_letter grid one [] = cell_at grid (one - 97) (number [])
 after_letter grid one (other ∷ row) = if is_letter other
     then cell_at grid ((one - 97 + 1) * 26 + (other - 97)) (number row)
     else cell_at grid (one - 97) (number (other ∷ row))
 
 -- the cell that a text names: by one or two letters for the column, and the number of the row
-abbrev pub cell_named : Grid → Bytes → Option ℕ
-cell_named grid [] = None
-cell_named grid (one ∷ others) = if is_letter one then after_letter grid one others else None
+abbrev pub cell_named : Grid → Bytes → Named
+cell_named grid [] = named.Nothing
+cell_named grid (one ∷ others) =
+    if is_letter one then after_letter grid one others else named.Nothing
 
--- the point that a text names on a field on lines, and on any field: its number, or its cell's name
-abbrev pub cell_of : Option Grid → Bytes → Option ℕ
-cell_of None text = None
+-- what a text names on a field on lines, and on any field: a point by its number, or a cell
+abbrev pub cell_of : Option Grid → Bytes → Named
+cell_of None text = named.Nothing
 cell_of (Some grid) text = cell_named grid text
 
-abbrev pub named_on : Field → Bytes → Option ℕ
+abbrev pub named_on : Field → Bytes → Named
 named_on (Lines f) text = cell_of f.grid text
-named_on (OnGraph h) text = None
+named_on (OnGraph h) text = named.Nothing
 
-abbrev pub number_or : Option ℕ → Option ℕ → Option ℕ
-number_or (Some n) other = Some n
+abbrev pub number_or : Option ℕ → Named → Named
+number_or (Some n) other = named.Point n
 number_or None other = other
 
-abbrev pub field_point : Field → Bytes → Option ℕ
+abbrev pub field_point : Field → Bytes → Named
 field_point field text = number_or (number text) (named_on field text)
 
--- what a point that was named is to be done with
-abbrev pub lines_through : Option ℕ → Reply
-lines_through None = reply.Unclear
-lines_through (Some v) = reply.Lines (Some v)
+-- what is to be done with what was named
+abbrev pub lines_through : Named → Reply
+lines_through named.Nothing = reply.Unclear
+lines_through named.NoCell = reply.NoCell
+lines_through (named.Point v) = reply.Lines (Some v)
 
-abbrev pub claim_of : Option ℕ → Reply
-claim_of None = reply.Unclear
-claim_of (Some v) = reply.Point v
+abbrev pub claim_of : Named → Reply
+claim_of named.Nothing = reply.Unclear
+claim_of named.NoCell = reply.NoCell
+claim_of (named.Point v) = reply.Point v
 
 -- what two words ask for
 abbrev pub read_pair : Field → Bytes → Bytes → Reply

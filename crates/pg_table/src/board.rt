@@ -1,8 +1,10 @@
 //! The text of a board.
 ghost use Rattle.std.specs.Prelude.{◌≡◌, ◌++◌, OnOk, string_bytes};
-ghost use Rattle.pg_table.specs.Board.{board_text, open_text, picture_text};
+ghost use Rattle.pg_game.specs.Game.{point_count};
+ghost use Rattle.pg_table.specs.Board.{board_text, open_text, picture_text, placed_text};
 
 use crate::bridges::paper_rows;
+use crate::charts::put_chart;
 use crate::entries::put_entries;
 use crate::open_lines::put_lines;
 use crate::sheets::{Sheet, put_sheet};
@@ -21,7 +23,22 @@ fn cells_of(grid: Grid) -> Sheet
     }
 }
 
-/// Adds the picture of a board: a grid of cells, Bridg-It as on paper, or entries in rows.
+/// Adds the points of a board without cells: by a layout with as many places, or in rows.
+fn put_placed(out: &mut String, game: &Game, shown: &Shown) -> Result<(), AllocError>
+    ensures { OnOk result (string_bytes out.new
+        ≡ string_bytes out.old ++ placed_text game.now shown.now) }
+{
+    if let Some(chart) = &shown.look.layout {
+        let spots = chart.as_slice();
+        if spots.len() == usize::from(game.points()) {
+            return put_chart(out, spots, shown);
+        }
+    }
+    put_entries(out, game, shown)
+}
+
+/// Adds the picture of a board: a grid of cells, points by a layout, Bridg-It as on paper, or
+/// entries in rows.
 fn put_picture(out: &mut String, game: &Game, shown: &Shown) -> Result<(), AllocError>
     ensures { OnOk result (string_bytes out.new
         ≡ string_bytes out.old ++ picture_text game.now shown.now) }
@@ -31,14 +48,15 @@ fn put_picture(out: &mut String, game: &Game, shown: &Shown) -> Result<(), Alloc
             if let Some(grid) = field.grid {
                 return put_sheet(out, cells_of(grid), shown);
             }
+            put_placed(out, game, shown)
         }
         Field::Graph(graph) => {
             if let Some(rows) = paper_rows(graph) {
                 return put_sheet(out, Sheet::Paper { rows }, shown);
             }
+            put_entries(out, game, shown)
         }
     }
-    put_entries(out, game, shown)
 }
 
 /// Adds the lines that are open, if the game is on lines of points that are no cells.

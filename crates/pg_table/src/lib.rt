@@ -3,6 +3,7 @@
 
 mod board;
 mod bridges;
+mod charts;
 mod entries;
 pub mod laws;
 mod marks;
@@ -19,5 +20,5 @@ pub use board::put_board;
 pub use names::{LETTERS, put_name};
 pub use open_lines::{MAX_SHOWN_LINES, put_lines};
 pub use reply::{Reply, read_reply};
-pub use shown::{Look, Shown};
+pub use shown::{COLUMNS, Look, Shown};
 pub use words::{COMMANDS, put_goals, put_help, put_result, put_turn};

@@ -51,7 +51,7 @@ pub(crate) fn put_untint(out: &mut String, colour: bool) -> Result<(), AllocErro
 }
 
 /// Adds the letter of a side, in its colour if marks are coloured.
-fn put_letter(out: &mut String, colour: bool, side: Side) -> Result<(), AllocError>
+pub(crate) fn put_letter(out: &mut String, colour: bool, side: Side) -> Result<(), AllocError>
     ensures { OnOk result (string_bytes out.new ≡ string_bytes out.old ++ painted colour side) }
 {
     if colour {

@@ -1,11 +1,11 @@
 //! The lines that are still open.
-ghost use Rattle.std.specs.Prelude.{◌≡◌, ◌<◌, ◌++◌, ◌==◌, OnOk, string_bytes};
+ghost use Rattle.std.specs.Prelude.{◌≡◌, ◌<◌, ◌≤◌, ◌++◌, ◌==◌, IfOk, OnOk, string_bytes};
 ghost use Rattle.std.specs.List.{All, count_by, list_any};
 ghost use Rattle.pg_base.specs.declared.limits.TheConstants.{MAX_MEMBERS};
 ghost use Rattle.pg_game.specs.Game.{lines_of, point_count};
-ghost use Rattle.pg_table.specs.OpenLines.{count_text, is_kept, is_open, line_text, lines_text};
-ghost use Rattle.pg_table.specs.OpenLines.{passes};
-ghost use Rattle.pg_table.specs.OpenLines.{shown_lines};
+ghost use Rattle.pg_table.specs.Names.{point_name};
+ghost use Rattle.pg_table.specs.OpenLines.{count_text, gap_text, is_kept, is_open, line_text};
+ghost use Rattle.pg_table.specs.OpenLines.{lines_text, passes, room_after, shown_lines};
 
 use crate::names::put_name;
 use pg_base::{Kind, Line, MAX_MEMBERS};
@@ -15,6 +15,9 @@ use std::fmt::Write;
 
 /// The most lines that are shown.
 pub const MAX_SHOWN_LINES: usize = 12;
+
+/// The most names of points in a row.
+pub const NAMES_IN_ROW: u16 = 15;
 
 /// Whether a line can still be filled: in Maker-Maker it lacks the points of one side, else those
 /// of O.
@@ -69,6 +72,38 @@ fn count_open(game: &Game, position: &Position, through: Option<u16>) -> usize
     count
 }
 
+/// Returns what is before a name in a row with room for so many more: a space, or if there is no
+/// room, the end of the row and what begins a further one.
+fn gap_of(room: u16) -> &'static str
+    ensures { result.now ≡ gap_text room }
+{
+    if room == 0 { "\n    " } else { " " }
+}
+
+/// Returns for how many more names there is room after a name.
+fn room_after(room: u16) -> u16
+    ensures { result ≡ room_after room }
+{
+    if room == 0 {
+        NAMES_IN_ROW - 1
+    } else {
+        room - 1
+    }
+}
+
+/// Adds a name to a row with room for so many more. Returns for how many more its row then has
+/// room.
+fn put_in_row(out: &mut String, game: &Game, point: u16, room: u16) -> Result<u16, AllocError>
+    requires { point < point_count game.now }
+    ensures text { OnOk result (string_bytes out.new
+        ≡ string_bytes out.old ++ (gap_text room ++ point_name game.now.field point)) }
+    ensures room { IfOk result (λ left. left ≡ room_after room) }
+{
+    out.push_str(gap_of(room))?;
+    put_name(out, game, point)?;
+    Ok(room_after(room))
+}
+
 /// Adds the names of a line's points.
 #[tactic(auto, unfolding(crate::specs::OpenLines::line_text))]
 fn put_line(out: &mut String, game: &Game, line: &Line) -> Result<(), AllocError>
@@ -76,9 +111,9 @@ fn put_line(out: &mut String, game: &Game, line: &Line) -> Result<(), AllocError
     ensures { OnOk result (string_bytes out.new
         ≡ string_bytes out.old ++ line_text game.now.field line.now) }
 {
+    let mut room = NAMES_IN_ROW;
     for point in line.as_slice() {
-        out.push_str(" ")?;
-        put_name(out, game, *point)?;
+        room = put_in_row(out, game, *point, room)?;
     }
     out.push_str("\n")
 }

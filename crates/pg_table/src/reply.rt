@@ -1,7 +1,7 @@
 //! What a line typed at a board means.
 ghost use Rattle.std.specs.Prelude.{◌≡◌};
-ghost use Rattle.pg_table.specs.Reply.{cell_at, cell_named, field_point, is_letter};
-ghost use Rattle.pg_table.specs.Reply.{read_command, read_pair, read_reply};
+ghost use Rattle.pg_table.specs.Reply.{cell_at, cell_named, claim_of, field_point, is_letter};
+ghost use Rattle.pg_table.specs.Reply.{lines_through, read_command, read_pair, read_reply};
 
 use pg_base::{Grid, SPACE};
 use pg_game::Field;
@@ -20,8 +20,21 @@ pub enum Reply {
     Help,
     /// Leaves the game.
     Quit,
+    /// The name of a cell that the board doesn't have.
+    NoCell,
     /// Nothing that has a meaning.
     Unclear,
+}
+
+/// What a text names.
+#[derive(Clone, Copy, Debug, PartialEq, Eq)]
+pub(crate) enum Named {
+    /// The point of this number.
+    Point(u32),
+    /// A cell that the board doesn't have.
+    NoCell,
+    /// Nothing.
+    Nothing,
 }
 
 /// Whether the byte is a lowercase letter of ASCII.
@@ -31,20 +44,23 @@ fn is_letter(byte: u8) -> bool
     b'a' <= byte && byte <= b'z'
 }
 
-/// The cell in this column, and in the row of this number from 1, if the board has such a cell.
-fn cell_at(grid: Grid, column: u16, row: Option<u32>) -> Option<u32>
+/// Returns the cell in this column, and in the row of this number from 1.
+fn cell_at(grid: Grid, column: u16, row: Option<u32>) -> Named
     ensures { result ≡ cell_at grid column row }
 {
-    let row = row?;
+    let Some(row) = row else {
+        return Named::Nothing;
+    };
     if column < grid.width && 0 < row && row <= u32::from(grid.height) {
-        Some((row - 1) * u32::from(grid.width) + u32::from(column))
+        Named::Point((row - 1) * u32::from(grid.width) + u32::from(column))
     } else {
-        None
+        Named::NoCell
     }
 }
 
-/// The cell that a text names: by one or two letters for the column, and the number of the row.
-fn cell_named(grid: Grid, text: &[u8]) -> Option<u32>
+/// Returns the cell that a text names: by one or two letters for the column, and the number of the
+/// row.
+fn cell_named(grid: Grid, text: &[u8]) -> Named
     ensures { result ≡ cell_named grid text.now }
 {
     match text {
@@ -53,21 +69,46 @@ fn cell_named(grid: Grid, text: &[u8]) -> Option<u32>
             cell_at(grid, column, number(row))
         }
         [one, row @ ..] if is_letter(*one) => { cell_at(grid, u16::from(*one - b'a'), number(row)) }
-        _ => None,
+        _ => Named::Nothing,
     }
 }
 
-/// The number of the point that a text names: its number, or the name of its cell.
-fn point_named(field: &Field, text: &[u8]) -> Option<u32>
+/// Returns what a text names: a point by its number, or a cell.
+fn point_named(field: &Field, text: &[u8]) -> Named
     ensures { result ≡ field_point field.now text.now }
 {
     if let Some(point) = number(text) {
-        return Some(point);
+        return Named::Point(point);
     }
-    let Field::Lines(field) = field else {
-        return None;
-    };
-    cell_named(field.grid?, text)
+    match field {
+        Field::Lines(field) => match field.grid {
+            Some(grid) => cell_named(grid, text),
+            None => Named::Nothing,
+        },
+        Field::Graph(_) => Named::Nothing,
+    }
+}
+
+/// Returns the reply that asks for the open lines through what was named.
+fn lines_through(named: Named) -> Reply
+    ensures { result ≡ lines_through named }
+{
+    match named {
+        Named::Point(point) => Reply::Lines(Some(point)),
+        Named::NoCell => Reply::NoCell,
+        Named::Nothing => Reply::Unclear,
+    }
+}
+
+/// Returns the reply that claims what was named.
+fn claim_of(named: Named) -> Reply
+    ensures { result ≡ claim_of named }
+{
+    match named {
+        Named::Point(point) => Reply::Point(point),
+        Named::NoCell => Reply::NoCell,
+        Named::Nothing => Reply::Unclear,
+    }
 }
 
 /// What a text of two words asks for: the open lines through a point, or nothing with a meaning.
@@ -77,10 +118,7 @@ fn read_pair(field: &Field, first: &[u8], second: &[u8]) -> Reply
     if first != b"lines".as_slice() {
         return Reply::Unclear;
     }
-    match point_named(field, second) {
-        Some(point) => Reply::Lines(Some(point)),
-        None => Reply::Unclear,
-    }
+    lines_through(point_named(field, second))
 }
 
 /// What a text of one word asks for, if it is a command.
@@ -111,8 +149,5 @@ pub fn read_reply(field: &Field, text: &[u8]) -> Reply
     if let Some((first, second)) = two_parts(SPACE, text) {
         return read_pair(field, first, second);
     }
-    match point_named(field, text) {
-        Some(point) => Reply::Point(point),
-        None => Reply::Unclear,
-    }
+    claim_of(point_named(field, text))
 }

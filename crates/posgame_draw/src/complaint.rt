@@ -15,22 +15,38 @@ fn say_one(rt: &HostRuntime, name: &str) -> bool {
     }
 }
 
-/// Says which of the two files can't be read, and why.
+/// Returns the names of the files that are read: of the game, of its layout, and of a certificate
+/// or a record; that of the game again for one that isn't asked for.
+fn files_of<'a>(asked: &Asked<'a>) -> (&'a str, &'a str, &'a str) {
+    match asked {
+        Asked::Picture(order) => (
+            order.game,
+            order.style.layout.unwrap_or(order.game),
+            order.certificate.unwrap_or(order.game),
+        ),
+        Asked::Recorded(order, style) => (
+            order.game,
+            style.layout.unwrap_or(order.game),
+            order.record,
+        ),
+        Asked::Book(order) => (order.game, order.game, order.certificate),
+    }
+}
+
+/// Says which of the files can't be read, and why.
 fn say_unreadable(rt: &HostRuntime, answer: &Result<Asked<'_>, Error>) {
-    let (game, certificate) = match answer {
-        Ok(Asked::Picture(order)) => (order.game, order.certificate.unwrap_or(order.game)),
-        Ok(Asked::Recorded(order, _)) => (order.game, order.record),
-        Ok(Asked::Book(order)) => (order.game, order.certificate),
-        Err(_) => return,
+    let Ok(asked) = answer else {
+        return;
     };
-    if !say_one(rt, game) && !say_one(rt, certificate) {
+    let (game, layout, other) = files_of(asked);
+    if !say_one(rt, game) && !say_one(rt, layout) && !say_one(rt, other) {
         let _ = eprintln!(rt; "{NAME}: a file couldn't be read");
     }
 }
 
 /// Says why words have no meaning: by `clap`, if it has something to say, or that the node isn't
 /// there.
-fn say_meaningless(rt: &HostRuntime, answer: Result<Asked<'_>, Error>) {
+fn say_meaningless(rt: &HostRuntime, answer: &Result<Asked<'_>, Error>) {
     let _ = match answer {
         Err(error) => error.print(rt),
         Ok(Asked::Recorded(..)) => eprintln!(rt; "{NAME}: there is no such move"),
@@ -39,14 +55,14 @@ fn say_meaningless(rt: &HostRuntime, answer: Result<Asked<'_>, Error>) {
 }
 
 /// Says what statuses of words, calls and memory mean; the codes of faults are on standard output.
-pub(crate) fn say(rt: &HostRuntime, status: u8, answer: Result<Asked<'_>, Error>) {
+pub(crate) fn say(rt: &HostRuntime, status: u8, answer: &Result<Asked<'_>, Error>) {
     let _ = match status {
         NO_MEANING => {
             say_meaningless(rt, answer);
             Ok(())
         }
         READ_FAILED => {
-            say_unreadable(rt, &answer);
+            say_unreadable(rt, answer);
             Ok(())
         }
         WRITE_FAILED => eprintln!(rt; "{NAME}: standard output couldn't be written"),

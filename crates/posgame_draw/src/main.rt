@@ -9,6 +9,8 @@ use clap::Error;
 use pg_binding::{BookOrder, bind};
 use pg_drawing::draw;
 use pg_host::{HostConsole, HostFiles, guard_streams};
+use pg_laying::{open_layout, tell_no_layout};
+use pg_layout::Chart;
 use pg_messages::{DONE, NO_MEMORY, NO_WORDS};
 use pg_replaying::{RecordOrder, draw_record};
 use pg_scene::Look;
@@ -16,17 +18,15 @@ use std::alloc::{AllocError, Global};
 use std::env;
 use std::io::ErrorKind;
 use std::process::ExitCode;
-use usage::{Asked, PictureOrder};
+use usage::{Asked, PictureOrder, Style};
 
 /// Returns the words of the command line after the program's name, or the status without them.
 fn words_given(rt: &HostRuntime) -> Result<Vec<String>, u8> {
-    let arguments = env::args(rt).map_err(|error| {
-        if error.kind() == ErrorKind::OutOfMemory {
-            NO_MEMORY
-        } else {
-            NO_WORDS
-        }
-    })?;
+    let arguments = match env::args(rt) {
+        Ok(arguments) => arguments,
+        Err(error) if error.kind() == ErrorKind::OutOfMemory => return Err(NO_MEMORY),
+        Err(_) => return Err(NO_WORDS),
+    };
     let mut words = Vec::new(rt.alloc());
     for word in arguments.skip(1) {
         if words.push(word).is_err() {
@@ -36,15 +36,21 @@ fn words_given(rt: &HostRuntime) -> Result<Vec<String>, u8> {
     Ok(words)
 }
 
+/// Adds a word.
+fn add(alloc: Global, names: &mut Vec<String>, word: &str) -> Result<(), AllocError> {
+    names.push(String::from_str(alloc, word)?)?;
+    Ok(())
+}
+
 /// Returns the words that name what is drawn, without options.
 fn names_of(alloc: Global, order: &PictureOrder<'_>) -> Result<Vec<String>, AllocError> {
     let mut names = Vec::new(alloc);
-    names.push(String::from_str(alloc, order.game)?)?;
+    add(alloc, &mut names, order.game)?;
     if let Some(name) = order.certificate {
-        names.push(String::from_str(alloc, name)?)?;
+        add(alloc, &mut names, name)?;
     }
     if let Some(word) = order.node {
-        names.push(String::from_str(alloc, word)?)?;
+        add(alloc, &mut names, word)?;
     }
     Ok(names)
 }
@@ -56,16 +62,43 @@ fn draw_names(rt: &HostRuntime, names: &[String], look: Look) -> u8 {
     draw(rt.alloc(), names, look, &mut files, &mut console)
 }
 
+/// Returns what the picture of a game shows, with its layout if one is asked for; or the status of
+/// the run if there is none, which is said.
+fn look_with_layout(rt: &HostRuntime, game: &str, style: Style<'_>) -> Result<Look, u8> {
+    let Some(layout) = style.layout else {
+        return Ok(style.look);
+    };
+    let mut files = HostFiles::new(rt);
+    match open_layout(rt.alloc(), &mut files, game, layout) {
+        Ok(spots) => {
+            let mut look = style.look;
+            look.layout = Chart::of(spots.as_slice());
+            Ok(look)
+        }
+        Err(why) => {
+            let mut console = HostConsole::new(rt);
+            Err(tell_no_layout(rt.alloc(), &mut console, why))
+        }
+    }
+}
+
 /// Draws a picture, and returns the status.
 fn draw_picture(rt: &HostRuntime, order: &PictureOrder<'_>) -> u8 {
-    match names_of(rt.alloc(), order) {
-        Ok(names) => draw_names(rt, &names, order.look),
-        Err(_) => NO_MEMORY,
+    let Ok(names) = names_of(rt.alloc(), order) else {
+        return NO_MEMORY;
+    };
+    match look_with_layout(rt, order.game, order.style) {
+        Ok(look) => draw_names(rt, &names, look),
+        Err(status) => status,
     }
 }
 
 /// Draws a recorded game, and returns the status.
-fn draw_recorded(rt: &HostRuntime, order: RecordOrder<'_>, look: Look) -> u8 {
+fn draw_recorded(rt: &HostRuntime, order: RecordOrder<'_>, style: Style<'_>) -> u8 {
+    let look = match look_with_layout(rt, order.game, style) {
+        Ok(look) => look,
+        Err(status) => return status,
+    };
     let mut files = HostFiles::new(rt);
     let mut console = HostConsole::new(rt);
     draw_record(rt.alloc(), order, look, &mut files, &mut console)
@@ -83,7 +116,7 @@ fn print_book(rt: &HostRuntime, order: BookOrder<'_>) -> u8 {
 fn run(rt: &HostRuntime, answer: &Result<Asked<'_>, Error>) -> u8 {
     match answer {
         Ok(Asked::Picture(order)) => draw_picture(rt, order),
-        Ok(Asked::Recorded(order, look)) => draw_recorded(rt, *order, *look),
+        Ok(Asked::Recorded(order, style)) => draw_recorded(rt, *order, *style),
         Ok(Asked::Book(order)) => print_book(rt, *order),
         Err(_) => draw_names(rt, &[], Look::whole()),
     }
@@ -103,6 +136,6 @@ fn main(rt: HostRuntime) -> ExitCode {
         }
     }
     let status = run(&rt, &answer);
-    complaint::say(&rt, status, answer);
+    complaint::say(&rt, status, &answer);
     ExitCode::from(status)
 }

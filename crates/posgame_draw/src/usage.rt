@@ -5,7 +5,7 @@ use pg_binding::BookOrder;
 use pg_draw::MAX_BOARDS;
 use pg_replaying::RecordOrder;
 use pg_scene::{Legend, Look};
-use std::alloc::Global;
+use std::alloc::{AllocError, Global};
 
 /// The version that `--version` prints.
 pub(crate) const VERSION: &str = "1.0.0";
@@ -15,6 +15,9 @@ pub(crate) const NAME: &str = "posgame-draw";
 
 /// The name of the option that asks for a book.
 const BOOK: &str = "book";
+
+/// The name of the option for how many moves a book shows.
+const DEPTH: &str = "depth";
 
 /// The name of the option for pictures without numbers.
 const NO_NUMBERS: &str = "no-numbers";
@@ -34,14 +37,29 @@ const BLANK: &str = "blank";
 /// The name of the option for the moves after which a recorded game is drawn.
 const MOVE: &str = "move";
 
+/// The name of the option for the layout of a game.
+const LAYOUT: &str = "layout";
+
 /// How the names of records end.
 const RECORDED: &str = ".record";
 
 /// The most moves of a record.
 const MAX_MOVES: u32 = 10_000;
 
+/// The most moves that a book can be asked to show: no game has more points.
+const MAX_DEPTH: u32 = 1000;
+
 /// The greatest width of a picture, in pixels.
 const MAX_SIZE: u32 = 10_000;
+
+/// How a picture is to be drawn.
+#[derive(Clone, Copy, Debug)]
+pub(crate) struct Style<'a> {
+    /// What it shows, but for a layout.
+    pub(crate) look: Look,
+    /// The name of the layout's file, if there is one.
+    pub(crate) layout: Option<&'a str>,
+}
 
 /// Which picture is to be drawn.
 #[derive(Clone, Copy, Debug)]
@@ -52,8 +70,8 @@ pub(crate) struct PictureOrder<'a> {
     pub(crate) certificate: Option<&'a str>,
     /// The word that names a node, if there is one.
     pub(crate) node: Option<&'a str>,
-    /// What the picture shows.
-    pub(crate) look: Look,
+    /// How it is drawn.
+    pub(crate) style: Style<'a>,
 }
 
 /// What words ask for.
@@ -62,93 +80,124 @@ pub(crate) enum Asked<'a> {
     /// A picture.
     Picture(PictureOrder<'a>),
     /// A picture of a recorded game.
-    Recorded(RecordOrder<'a>, Look),
+    Recorded(RecordOrder<'a>, Style<'a>),
     /// A book.
     Book(BookOrder<'a>),
 }
 
-/// Returns an option that a picture is to be without something.
-fn without<'a>(alloc: Global, name: &'a str, help: &'a str) -> Result<Arg<'a>, Error> {
-    let arg = Arg::new(alloc, name)
-        .long(name)
-        .action(ArgAction::SetTrue)
-        .conflicts_with(BOOK)?
-        .help(help);
-    Ok(arg)
+/// Adds an option that a picture is to be without something.
+fn with_absence<'a>(
+    alloc: Global,
+    command: Command<'a>,
+    name: &'a str,
+    help: &'a str,
+) -> Result<Command<'a>, AllocError> {
+    let absence = Arg::new(alloc, name).long(name).action(ArgAction::SetTrue);
+    let absence = absence.help(help).conflicts_with(BOOK)?;
+    command.arg(absence)
+}
+
+/// Returns an option that takes a number in this range, which `value` stands for in the help.
+fn number<'a>(
+    alloc: Global,
+    name: &'a str,
+    value: &'a str,
+    least: u32,
+    most: u32,
+) -> Result<Arg<'a>, AllocError> {
+    let range = ValueParser::unsigned(u64::from(least), u64::from(most));
+    let number = Arg::new(alloc, name).long(name).value_name(value);
+    number.value_parser(range).conflicts_with(BOOK)
+}
+
+/// Adds the option for the moves after which a recorded game is drawn.
+fn with_moves<'a>(alloc: Global, command: Command<'a>) -> Result<Command<'a>, AllocError> {
+    let moves = number(alloc, MOVE, "K", 0, MAX_MOVES)?;
+    let moves = moves.help("Draw the recorded game in CERT after K moves");
+    let moves = moves.requires_arg("CERT")?.conflicts_with("NODE")?;
+    command.arg(moves)
+}
+
+/// Adds the option for the width of a picture.
+fn with_size<'a>(alloc: Global, command: Command<'a>) -> Result<Command<'a>, AllocError> {
+    let size = number(alloc, SIZE, "N", 1, MAX_SIZE)?;
+    command.arg(size.help("Show the picture N pixels wide"))
+}
+
+/// Adds the option for blank boards.
+fn with_blank<'a>(alloc: Global, command: Command<'a>) -> Result<Command<'a>, AllocError> {
+    let blank = number(alloc, BLANK, "N", 1, MAX_BOARDS)?;
+    let blank = blank.help("Draw N boards without marks and legends on a sheet");
+    let blank = blank.conflicts_with("CERT")?;
+    command.arg(blank)
+}
+
+/// Adds the option for the layout of a game.
+fn with_layout<'a>(alloc: Global, command: Command<'a>) -> Result<Command<'a>, AllocError> {
+    let layout = Arg::new(alloc, LAYOUT).long(LAYOUT).value_name("FILE");
+    let layout = layout.conflicts_with(BOOK)?;
+    command.arg(layout.help("Draw the points of a game without a grid at the places in FILE"))
 }
 
 /// Adds the options for pictures.
-fn with_looks<'a>(alloc: Global, command: Command<'a>) -> Result<Command<'a>, Error> {
-    let numbers = without(
-        alloc,
-        NO_NUMBERS,
-        "Draw points and vertices without numbers",
-    )?;
-    let lines = without(alloc, NO_LINES, "Draw no lines")?;
-    let legend = without(alloc, NO_LEGEND, "Draw no legend")?;
-    let size = Arg::new(alloc, SIZE)
-        .long(SIZE)
-        .value_name("N")
-        .value_parser(ValueParser::unsigned(1, u64::from(MAX_SIZE)))
-        .conflicts_with(BOOK)?
-        .help("Show the picture N pixels wide");
-    let blank = Arg::new(alloc, BLANK)
-        .long(BLANK)
-        .value_name("N")
-        .value_parser(ValueParser::unsigned(1, u64::from(MAX_BOARDS)))
-        .conflicts_with(BOOK)?
-        .conflicts_with("CERT")?
-        .help("Draw N boards without marks and legends on a sheet");
-    let moves = Arg::new(alloc, MOVE)
-        .long(MOVE)
-        .value_name("K")
-        .value_parser(ValueParser::unsigned(0, u64::from(MAX_MOVES)))
-        .requires_arg("CERT")?
-        .conflicts_with(BOOK)?
-        .conflicts_with("NODE")?
-        .help("Draw the recorded game in CERT after K moves");
-    let command = command
-        .arg(moves)?
-        .arg(numbers)?
-        .arg(lines)?
-        .arg(legend)?
-        .arg(size)?
-        .arg(blank)?;
-    Ok(command)
+fn with_looks<'a>(alloc: Global, command: Command<'a>) -> Result<Command<'a>, AllocError> {
+    let command = with_moves(alloc, command)?;
+    let help = "Draw points and vertices without numbers";
+    let command = with_absence(alloc, command, NO_NUMBERS, help)?;
+    let command = with_absence(alloc, command, NO_LINES, "Draw no lines")?;
+    let command = with_absence(alloc, command, NO_LEGEND, "Draw no legend")?;
+    let command = with_size(alloc, command)?;
+    let command = with_blank(alloc, command)?;
+    with_layout(alloc, command)
 }
 
 /// Adds the three positional arguments.
-fn with_names<'a>(alloc: Global, command: Command<'a>) -> Result<Command<'a>, Error> {
+fn with_names<'a>(alloc: Global, command: Command<'a>) -> Result<Command<'a>, AllocError> {
     let game = Arg::new(alloc, "GAME")
         .required(true)
         .help("The file of a game: its board is drawn");
+    let command = command.arg(game)?;
     let certificate = Arg::new(alloc, "CERT").help(
         "A certificate, which is checked, and of which a node is drawn; or a record, NAME.record",
     );
+    let command = command.arg(certificate)?;
     let node = Arg::new(alloc, "NODE").help(
         "The node: K of the first claim, or C.K of claim C, from 0",
     );
-    let command = command.arg(game)?.arg(certificate)?.arg(node)?;
-    Ok(command)
+    command.arg(node)
 }
 
-/// Returns the command with its options and its positional arguments.
-fn command<'a>(alloc: Global) -> Result<Command<'a>, Error> {
+/// Adds the option that asks for a book.
+fn with_book<'a>(alloc: Global, command: Command<'a>) -> Result<Command<'a>, AllocError> {
     let book = Arg::new(alloc, BOOK)
         .long(BOOK)
         .action(ArgAction::SetTrue)
-        .requires_arg("CERT")?
-        .conflicts_with("NODE")?
         .help("Print the whole proof as a page of HTML, to be clicked through");
+    let book = book.requires_arg("CERT")?.conflicts_with("NODE")?;
+    command.arg(book)
+}
+
+/// Adds the option for how many moves a book shows.
+fn with_depth<'a>(alloc: Global, command: Command<'a>) -> Result<Command<'a>, AllocError> {
+    let range = ValueParser::unsigned(0, u64::from(MAX_DEPTH));
+    let depth = Arg::new(alloc, DEPTH).long(DEPTH).value_name("K");
+    let depth = depth.value_parser(range).requires_arg(BOOK)?;
+    command.arg(depth.help("Print the first K moves of the proof alone"))
+}
+
+/// Returns the command with its options and its positional arguments.
+fn command<'a>(alloc: Global) -> Result<Command<'a>, AllocError> {
     let command = Command::new(alloc, NAME)
         .no_binary_name(true)
         .version(VERSION)
-        .about("Draws a positional game, or a node of a proof, as an SVG picture")
-        .arg(book)?;
-    with_names(alloc, with_looks(alloc, command)?)
+        .about("Draws a positional game, or a node of a proof, as an SVG picture");
+    let command = with_book(alloc, command)?;
+    let command = with_depth(alloc, command)?;
+    let command = with_looks(alloc, command)?;
+    with_names(alloc, command)
 }
 
-/// Returns what a picture is to show.
+/// Returns what a picture is to show, but for a layout.
 fn look_of(found: &ArgMatches<'_>) -> Look {
     let blank = found.get_one::<u32>(BLANK);
     let legend = if found.get_flag(NO_LEGEND) || blank.is_some() {
@@ -162,6 +211,15 @@ fn look_of(found: &ArgMatches<'_>) -> Look {
         legend,
         size: found.get_one::<u32>(SIZE),
         blank,
+        layout: None,
+    }
+}
+
+/// Returns how a picture is to be drawn.
+fn style_of<'a>(found: &ArgMatches<'a>) -> Style<'a> {
+    Style {
+        look: look_of(found),
+        layout: found.get_str(LAYOUT),
     }
 }
 
@@ -190,15 +248,16 @@ pub(crate) fn read_words<'a>(alloc: Global, words: &'a [String]) -> Result<Asked
         return Ok(Asked::Book(BookOrder {
             game,
             certificate: certificate.unwrap_or(""),
+            depth: found.get_one::<u32>(DEPTH),
         }));
     }
     if let Some(order) = recorded_in(&found) {
-        return Ok(Asked::Recorded(order, look_of(&found)));
+        return Ok(Asked::Recorded(order, style_of(&found)));
     }
     Ok(Asked::Picture(PictureOrder {
         game,
         certificate,
         node: found.get_str("NODE"),
-        look: look_of(&found),
+        style: style_of(&found),
     }))
 }

@@ -15,8 +15,9 @@ fn is_unreadable(rt: &HostRuntime, name: &str) -> bool {
 /// Says which file can't be read, and why.
 fn say_unreadable(rt: &HostRuntime, asked: &Asked<'_>) {
     let game = asked.game;
-    let last = asked.certificate.unwrap_or(game);
-    if !is_unreadable(rt, game) && !is_unreadable(rt, last) {
+    let layout = asked.layout.unwrap_or(game);
+    let last = asked.certificate.unwrap_or(layout);
+    if !is_unreadable(rt, game) && !is_unreadable(rt, layout) && !is_unreadable(rt, last) {
         let _ = eprintln!(rt; "{NAME}: {last} or standard input couldn't be read");
     }
 }

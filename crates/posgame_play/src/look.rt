@@ -1,10 +1,7 @@
 //! How a board is shown on this terminal.
-use pg_table::Look;
+use pg_table::{COLUMNS, Look};
 use std::env;
 use std::io::IsTerminal;
-
-/// How many characters a row has if nothing else is known.
-const COLUMNS: u16 = 80;
 
 /// Returns how many characters a row of the terminal has: `COLUMNS` of the environment, or else 80.
 fn columns(rt: &HostRuntime) -> u16 {
@@ -14,10 +11,12 @@ fn columns(rt: &HostRuntime) -> u16 {
     }
 }
 
-/// Returns how a board is shown: in colour on a terminal, unless `NO_COLOR` is set.
+/// Returns how a board is shown, but for a layout: in colour on a terminal, unless `NO_COLOR` is
+/// set.
 pub(crate) fn look(rt: &HostRuntime) -> Look {
     Look {
         columns: columns(rt),
         colour: rt.stdout().is_terminal() && env::var(rt, "NO_COLOR").is_err(),
+        layout: None,
     }
 }

@@ -19,12 +19,16 @@ pub(crate) struct Asked<'a> {
     pub(crate) game: &'a str,
     /// The path of the certificate by which the program plays.
     pub(crate) certificate: Option<&'a str>,
-    /// The side that the program plays.
+    /// The side that the program plays by the certificate.
     pub(crate) side: Option<Side>,
+    /// The side that the program plays by a search.
+    pub(crate) computer: Option<Side>,
     /// The side that begins.
     pub(crate) turn: Option<Side>,
     /// The path under which the record is stored.
     pub(crate) record: Option<&'a str>,
+    /// The path of the layout by which the board is shown.
+    pub(crate) layout: Option<&'a str>,
 }
 
 /// Returns an option that names a side.
@@ -33,6 +37,14 @@ fn side<'a>(alloc: Global, name: &'a str, help: &'a str) -> Arg<'a> {
         .long(name)
         .value_name("S")
         .value_parser(ValueParser::Names(&["x", "y"]))
+        .help(help)
+}
+
+/// Returns an option that names a file.
+fn file<'a>(alloc: Global, name: &'a str, help: &'a str) -> Arg<'a> {
+    Arg::new(alloc, name)
+        .long(name)
+        .value_name("FILE")
         .help(help)
 }
 
@@ -47,20 +59,30 @@ fn command<'a>(alloc: Global) -> Result<Command<'a>, Error> {
     let played = side(alloc, "side", "The side that the program plays by CERT").requires_arg(
         "CERT",
     )?;
+    let searched = side(
+        alloc,
+        "computer",
+        "The side that the program plays by a search",
+    )
+    .conflicts_with("CERT")?;
     let begins = side(alloc, "turn", "The side that begins");
-    let record = Arg::new(alloc, "record")
-        .long("record")
-        .value_name("FILE")
-        .help("The file that the record is written to");
+    let record = file(alloc, "record", "The file that the record is written to");
+    let layout = file(
+        alloc,
+        "layout",
+        "The file of the places of the points, of a game without a grid",
+    );
     let command = Command::new(alloc, NAME)
         .no_binary_name(true)
         .version(VERSION)
-        .about("Plays a positional game at a terminal: two people, or one against a certificate")
+        .about("Plays a positional game at a terminal: two people, or one against the program")
         .arg(game)?
         .arg(certificate)?
         .arg(played)?
+        .arg(searched)?
         .arg(begins)?
-        .arg(record)?;
+        .arg(record)?
+        .arg(layout)?;
     Ok(command)
 }
 
@@ -77,8 +99,10 @@ pub(crate) fn read_words<'a>(alloc: Global, words: &'a [String]) -> Result<Asked
         game: found.get_str("GAME").unwrap_or(""),
         certificate: found.get_str("CERT"),
         side: side_named(found.get_str("side")),
+        computer: side_named(found.get_str("computer")),
         turn: side_named(found.get_str("turn")),
         record: found.get_str("record"),
+        layout: found.get_str("layout"),
     })
 }
 

@@ -2,6 +2,7 @@
 //! rows as they tell.
 #![tactic(auto)]
 
+mod played;
 mod settled;
 mod shared;
 
@@ -13,6 +14,8 @@ use std::io;
 /// the row can't be read, or no memory is found.
 fn is_so(alloc: Global, question: &str, row: &str) -> Option<bool> {
     match question {
+        // how many nodes each claim of the tree of play has.
+        "played" => played::is_so(alloc, row),
         // whether X wins, with a claim that the checker accepts.
         "settled" => settled::is_so(alloc, row),
         // the shared pairs that are found.

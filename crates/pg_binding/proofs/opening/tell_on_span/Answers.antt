@@ -8,10 +8,10 @@ use Rattle.pg_binding.specs.Due.{IsSpanDue}
 use Rattle.pg_binding.proofs.opening.tell_on_span.Goals as goal
 
 pub returns-in_err-cert-clause-found : goal.returns-in_err-cert-clause-found
-returns-in_err-cert-clause-found g c =
+returns-in_err-cert-clause-found g c = λ depth.
     let p = err_from_is_err_and c.from_residual.result c.from_residual.ensures.1 in
     rw (p.1, p.2)
-    (unopened_due span_cert_held (span_pair (span_entry c.args.game.now)) (λ halt. refl)
+    (unopened_due depth span_cert_held (span_pair (span_entry c.args.game.now)) (λ halt. refl)
     (g.F.Files.told c.args.files.now).held c.args.certificate.now _
     c.in_err-cert.ensures.opened)
 
@@ -24,8 +24,9 @@ returns-in_err-cert-clause-causes g c =
     c.args.game.now) _ _ _ c.in_err-cert.ensures.causes)
 
 pub returns-clause-found : goal.returns-clause-found
-returns-clause-found g c = opened_due span_cert_held (span_pair (span_entry c.args.game.now))
-    (λ halt. refl) (g.F.Files.told c.args.files.now).held c.args.certificate.now c.in_ok-cert.cert
+returns-clause-found g c =
+    λ depth. opened_due depth span_cert_held (span_pair (span_entry c.args.game.now)) (λ halt. refl)
+    (g.F.Files.told c.args.files.now).held c.args.certificate.now c.in_ok-cert.cert
     (IsSpanDue c.args.game.now c.in_ok-cert.cert) (λ text status is. (c.args.game.now, refl, is))
     c.in_ok-cert.ensures.opened c.tell_span.result c.tell_span.ensures.found
 

@@ -8,10 +8,10 @@ use Rattle.pg_binding.specs.Due.{AreVectorsDue}
 use Rattle.pg_binding.proofs.opening.tell_on_vectors.Goals as goal
 
 pub returns-in_err-cert-clause-found : goal.returns-in_err-cert-clause-found
-returns-in_err-cert-clause-found g c =
+returns-in_err-cert-clause-found g c = λ depth.
     let p = err_from_is_err_and c.from_residual.result c.from_residual.ensures.1 in
     rw (p.1, p.2)
-    (unopened_due certificate_held (vector_pair (vector_entry c.args.game.now)) (λ halt. refl)
+    (unopened_due depth certificate_held (vector_pair (vector_entry c.args.game.now)) (λ halt. refl)
     (g.F.Files.told c.args.files.now).held c.args.certificate.now _
     c.in_err-cert.ensures.opened)
 
@@ -24,7 +24,8 @@ returns-in_err-cert-clause-causes g c =
     c.args.game.now) _ _ _ c.in_err-cert.ensures.causes)
 
 pub returns-clause-found : goal.returns-clause-found
-returns-clause-found g c = opened_due certificate_held (vector_pair (vector_entry c.args.game.now))
+returns-clause-found g c =
+    λ depth. opened_due depth certificate_held (vector_pair (vector_entry c.args.game.now))
     (λ halt. refl) (g.F.Files.told c.args.files.now).held c.args.certificate.now c.in_ok-cert.cert
     (AreVectorsDue c.args.game.now c.in_ok-cert.cert) (λ text status is. (
       c.args.game.now,

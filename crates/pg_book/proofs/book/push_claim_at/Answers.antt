@@ -25,12 +25,15 @@ returns c =
     c.index-claims-i.result c.as_slice-claims.ensures
     (rw c.as_slice-claims.ensures c.requires.one) c.index-claims-i.is in
     let chapter : c.chapter_of-chapter.result
-    ≡ chapter_of (length c.args.cert.now.claims) c.args.i c.index-claims-i.result =
+    ≡ chapter_of c.args.g.now c.args.depth (length c.args.cert.now.claims) c.args.i
+    c.index-claims-i.result =
     c.chapter_of-chapter.ensures
-    ∙ ap (λ claims. chapter_of (length claims) c.args.i c.index-claims-i.result)
+    ∙ ap (λ claims. chapter_of c.args.g.now c.args.depth (length claims) c.args.i
+    c.index-claims-i.result)
     c.as_slice-claims.ensures in
     let made = ap (sections_pieces c.args.g.now c.args.layout.now c.index-claims-i.result) chapter
-    ∙ ap (claim_by c.args.g.now c.args.layout.now (length c.args.cert.now.claims) c.args.i)
+    ∙ ap (claim_by c.args.g.now c.args.layout.now c.args.depth (length c.args.cert.now.claims)
+    c.args.i)
     (sym at) in
     on_ok_weaker c.push_sections.result
     (λ added. added ∙ ap (λ xs. c.args.pieces.now.items ++ xs) made) c.push_sections.ensures

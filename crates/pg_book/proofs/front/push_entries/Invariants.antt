@@ -7,5 +7,5 @@ use Rattle.pg_book.proofs.front.push_entries.Given as goal
 abbrev pub invariant-loop-i : goal.invariant-loop-i
 invariant-loop-i l = l.pieces.items
     ≡ l.fn.pieces.items
-    ++ flat_map (λ i. entry_by l.kind (length l.claims) i (slice_get l.claims i))
+    ++ flat_map (λ i. entry_by l.g l.depth (length l.claims) i (slice_get l.claims i))
     (range_with_len 0 l.i)

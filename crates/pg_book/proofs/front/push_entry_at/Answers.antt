@@ -8,7 +8,8 @@ pub returns : goal.returns
 returns c =
     let at = looked_up c.args.claims.now c.args.claims.now c.args.i c.index-claims-i.result refl
     c.requires.one c.index-claims-i.is in
-    let made = ap (entry_pieces c.args.kind c.index-claims-i.result) c.chapter_of-chapter.ensures
-    ∙ ap (entry_by c.args.kind (length c.args.claims.now) c.args.i) (sym at) in
+    let made = ap (entry_pieces c.args.g.now.kind c.index-claims-i.result)
+    c.chapter_of-chapter.ensures
+    ∙ ap (entry_by c.args.g.now c.args.depth (length c.args.claims.now) c.args.i) (sym at) in
     on_ok_weaker c.push_entry.result
     (λ added. added ∙ ap (λ xs. c.args.pieces.now.items ++ xs) made) c.push_entry.ensures

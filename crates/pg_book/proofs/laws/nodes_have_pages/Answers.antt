@@ -1,5 +1,5 @@
-use Rattle.pg_book.proofs.Members.{roomy-listed}
+use Rattle.pg_book.proofs.Near.{near-listed}
 use Rattle.pg_book.proofs.laws.nodes_have_pages.Goals as goal
 
 pub returns : goal.returns
-returns c = roomy-listed
+returns c = near-listed

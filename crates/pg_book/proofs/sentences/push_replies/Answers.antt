@@ -1,5 +1,4 @@
 use Rattle.std.proofs.lemmas.Result.{on_ok_weaker}
-use Rattle.pg_page.specs.declared.piece.Piece.{Piece}
 use Rattle.pg_book_parts.proofs.Steps.{filled, then_two}
 use Rattle.pg_book.proofs.sentences.push_replies.Goals as goal
 

@@ -1,10 +1,10 @@
-use Rattle.std.proofs.Common.{◌≡◌, ◌≤◌, ◌∙◌, Ok, ap, arith, inl, refl, sym}
-use Rattle.pg_duel.proofs.Common.{Reply, course_nothing, note_of_lines, point_count, point_count-le}
+use Rattle.std.proofs.Common.{◌≡◌, ◌≤◌, ◌∙◌, Ok, ap, arith, refl}
+use Rattle.pg_duel.proofs.Common.{course_nothing, note_of_lines, point_count, point_count-le}
 use Rattle.pg_duel.proofs.Common.{Turn, sitting_of}
 use Rattle.pg_messages.specs.declared.message.ReplyFault.TheVariants as faults
 use Rattle.pg_playing.specs.declared.note.Note.{Note}
 use Rattle.pg_playing.specs.declared.note.Note.TheVariants as notes
-use Rattle.pg_table.specs.declared.reply.Reply.TheVariants.{Help, Point, Quit, Unclear}
+use Rattle.pg_table.specs.declared.reply.Reply.TheVariants.{Help, NoCell, Point, Quit, Unclear}
 use Rattle.pg_table.specs.declared.reply.Reply.TheVariants.{Lines as ForLines}
 use Rattle.pg_duel.specs.DuelLog.{Closes, Notes, Steps, turned}
 use Rattle.pg_playing.specs.declared.dialogue.Turn.TheVariants as turns
@@ -70,6 +70,15 @@ returns-in-Help-clause-acts g c =
     c.note-in-Help.result _ (Notes (sitting_of old) heard notes.Help) refl
     (c.note-in-Help.ensures.course look heard))
 
+pub returns-in-NoCell-clause-acts : goal.returns-in-NoCell-clause-acts
+returns-in-NoCell-clause-acts g c =
+    let old = c.args.seat.now in
+    λ look heard. acts_asked look old.session.game old.player.claim _ _ (sitting_of old) heard
+    NoCell c.args.reply c.refuse-in-NoCell.result _ c.in-NoCell.is
+    (acts_from look old.session.game old.player.claim _ _ (sitting_of old) heard NoCell
+    c.refuse-in-NoCell.result _ (Notes (sitting_of old) heard (notes.Refused faults.NoPoint))
+    refl (c.refuse-in-NoCell.ensures.course look heard))
+
 pub returns-in-Unclear-clause-acts : goal.returns-in-Unclear-clause-acts
 returns-in-Unclear-clause-acts g c =
     let old = c.args.seat.now in
@@ -93,6 +102,10 @@ returns-in-Lines-clause-keeps g c =
 pub returns-in-Help-clause-keeps : goal.returns-in-Help-clause-keeps
 returns-in-Help-clause-keeps g c =
     keeps_any c.args.seat.now c.args.seat.now c.note-in-Help.result c.requires.sits refl
+
+pub returns-in-NoCell-clause-keeps : goal.returns-in-NoCell-clause-keeps
+returns-in-NoCell-clause-keeps g c =
+    keeps_any c.args.seat.now c.args.seat.now c.refuse-in-NoCell.result c.requires.sits refl
 
 pub returns-in-Unclear-clause-keeps : goal.returns-in-Unclear-clause-keeps
 returns-in-Unclear-clause-keeps g c =

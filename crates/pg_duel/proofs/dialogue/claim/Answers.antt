@@ -1,6 +1,6 @@
-use Rattle.std.proofs.Common.{◌≡◌, ◌∙◌, Err, Ok, ap, inl, inr, refl, subst, sym}
-use Rattle.pg_duel.proofs.Common.{Claim, Memory, Sitting, Turn, course_nothing, err_from_is_err_and}
-use Rattle.pg_duel.proofs.Common.{judged_move, place, reason_of, sitting_of}
+use Rattle.std.proofs.Common.{◌∙◌, Ok, ap, inl, inr, refl, sym}
+use Rattle.pg_duel.proofs.Common.{Sitting, Turn, course_nothing, err_from_is_err_and}
+use Rattle.pg_duel.proofs.Common.{judged_move, reason_of, sitting_of}
 use Rattle.pg_playing.specs.declared.note.Note.TheVariants.{Refused}
 use Rattle.pg_table.specs.declared.reply.Reply.TheVariants.{Point}
 use Rattle.pg_playing.specs.declared.dialogue.Turn.TheVariants as turns

@@ -1,7 +1,7 @@
 use Rattle.std.proofs.Common.{◌∙◌, refl}
 use Rattle.pg_duel.proofs.Common.{Memory, breaks_here, course_said, err_from_is_err_and, sitting_of}
-use Rattle.pg_duel.specs.Prelude.{answer_text}
 use Rattle.pg_duel.specs.DuelLog.{Notes, Steps, after_answer}
+use Rattle.pg_duel.specs.Words.{reply_text}
 use Rattle.pg_duel.proofs.dialogue.note.Goals as goal
 
 pub returns-in_err-text-clause-course : goal.returns-in_err-text-clause-course
@@ -26,7 +26,7 @@ pub returns-clause-course : goal.returns-clause-course
 returns-clause-course g c =
     let seat = c.args.seat.now in
     let text = c.as_str.ensures.value ∙ c.in_ok-text.ensures
-    ∙ (λ i. answer_text (c.requires i) (c.position.ensures.exact i) c.args.note) in
+    ∙ (λ i. reply_text (c.requires i) (c.position.ensures.exact i) c.args.note) in
     λ look heard. course_said (Steps look seat.session.game seat.player.claim) _ _
     c.as_str.result.now (Notes (sitting_of seat) heard c.args.note)
     (after_answer (sitting_of seat) heard)

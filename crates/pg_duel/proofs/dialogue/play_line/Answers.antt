@@ -1,4 +1,4 @@
-use Rattle.std.proofs.Common.{◌∙◌, ◌+◌, refl, subst, sym}
+use Rattle.std.proofs.Common.{◌∙◌, ◌+◌, subst, sym}
 use Rattle.pg_duel.proofs.Common.{Sitting, err_from_is_err_and, goes_then, sitting_of}
 use Rattle.pg_duel.specs.DuelLog.{Listens, Shows, Steps}
 use Rattle.pg_duel.specs.Seats.{Holds}

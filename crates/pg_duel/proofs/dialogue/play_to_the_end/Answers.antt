@@ -1,9 +1,8 @@
-use Rattle.std.proofs.Common.{◌≡◌, ◌<◌, ◌∙◌, ◌+◌, Some, arith, refl, subst, sym}
+use Rattle.std.proofs.Common.{◌≡◌, ◌<◌, ◌∙◌, ◌+◌, Some, arith, subst, sym}
 use Rattle.pg_duel.proofs.Common.{Claim, MAX_HEARD, chosen_claim, err_from_is_err_and, sitting_of}
 use Rattle.pg_duel.specs.DuelLog.{Listens, after_shown}
-use Rattle.pg_duel.proofs.Parts.{breaks_back, course_back, holds_back, holds_self}
-use Rattle.pg_duel.proofs.Parts.{line_breaks, line_leads}
-use Rattle.pg_duel.proofs.Parts.{sits_back, sits_self}
+use Rattle.pg_duel.proofs.Parts.{breaks_back, course_back, holds_back, holds_self, line_breaks}
+use Rattle.pg_duel.proofs.Parts.{line_leads, sits_back, sits_self}
 use Rattle.pg_duel.proofs.dialogue.play_to_the_end.Goals as goal
 
 pub returns-in_err-ended-clause-course : goal.returns-in_err-ended-clause-course

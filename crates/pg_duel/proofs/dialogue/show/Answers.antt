@@ -1,6 +1,6 @@
-use Rattle.std.proofs.Common.{◌≡◌, ◌∙◌, ◌<◌, Bool, ap, is_some, refl, subst, sym}
-use Rattle.pg_duel.proofs.Common.{Game, Memory, breaks_here, course_said, ending_at}
-use Rattle.pg_duel.proofs.Common.{err_from_is_err_and, has_ending, place, point_count, sitting_of}
+use Rattle.std.proofs.Common.{◌∙◌, Bool, ap, is_some, refl}
+use Rattle.pg_duel.proofs.Common.{Memory, breaks_here, course_said, ending_at}
+use Rattle.pg_duel.proofs.Common.{err_from_is_err_and, has_ending, place, sitting_of}
 use Rattle.pg_duel.specs.DuelLog.{Shows, Steps, after_shown}
 use Rattle.pg_duel.specs.Words.{seat_text}
 use Rattle.pg_duel.proofs.Parts.{outcome_holds}

@@ -1,9 +1,9 @@
-use Rattle.std.proofs.Common.{◌≡◌, ◌∙◌, ◌+◌, inr, refl, sym, take}
+use Rattle.std.proofs.Common.{◌∙◌, ◌+◌, refl, sym, take}
 use Rattle.pg_duel.proofs.Common.{Ended, Heard, Skipped, breaks_read, course_heard, goes_then}
 use Rattle.pg_duel.proofs.Common.{read_reply, sitting_of, trimmed}
 use Rattle.pg_messages.specs.declared.message.ReplyFault.TheVariants.{NoNumber}
 use Rattle.pg_playing.specs.declared.note.Note.TheVariants.{Refused}
-use Rattle.pg_duel.specs.DuelLog.{Closes, Listens, Notes, Steps, turned}
+use Rattle.pg_duel.specs.DuelLog.{Leaves, Listens, Notes, Steps}
 use Rattle.pg_duel.proofs.Answering.{acts_asked}
 use Rattle.pg_duel.proofs.Parts.{heard_acts, keeps_any}
 use Rattle.pg_duel.proofs.dialogue.take_turn.Goals as goal
@@ -41,8 +41,11 @@ returns-in-Ok-End-clause-course g c =
     let old = c.args.seat.now in
     let s = sitting_of old in
     let heard = rw c.in-Ok-End.field-0-is at c.in-Ok-End.ensures.heard in
-    λ look lines. course_heard (Steps look old.session.game old.player.claim) _ _ _ heard.0 Ended
-    (Listens s lines) (Closes s) c.hear.auto.buf heard.1 (λ text e. cc e) heard.2 heard.3 refl
+    λ look lines. goes_then (Steps look old.session.game old.player.claim) _ _ _ (Listens s lines)
+    (Leaves s) c.leave.result _
+    (course_heard (Steps look old.session.game old.player.claim) _ _ _ heard.0 Ended
+    (Listens s lines) (Leaves s) c.hear.auto.buf heard.1 (λ text e. cc e) heard.2 heard.3 refl)
+    (c.leave.ensures.course look old.session.game old.player.claim s (lines + 1))
 
 pub returns-in-Err-clause-course : goal.returns-in-Err-clause-course
 returns-in-Err-clause-course g c =
@@ -56,4 +59,5 @@ returns-in-Ok-Long-clause-keeps g c =
     keeps_any c.args.seat.now c.args.seat.now c.refuse.result c.requires.sits refl
 
 pub returns-in-Ok-End-clause-keeps : goal.returns-in-Ok-End-clause-keeps
-returns-in-Ok-End-clause-keeps g c = (c.requires.sits, refl)
+returns-in-Ok-End-clause-keeps g c =
+    keeps_any c.args.seat.now c.args.seat.now c.leave.result c.requires.sits refl

@@ -1,5 +1,4 @@
-use Rattle.std.proofs.Common.{◌≡◌, ◌<◌, ◌≤◌, ◌∙◌, ◌-◌, Ok, ap, arith, get_or, length, refl, subst}
-use Rattle.std.proofs.Common.{sym, take}
+use Rattle.std.proofs.Common.{◌<◌, ◌∙◌, ◌-◌, Ok, ap, arith, get_or, length, refl, subst, sym, take}
 use Rattle.pg_duel.proofs.Common.{Claim, Game, Side, Turn, chosen_claim, course_nothing, sitting_of}
 use Rattle.pg_playing.specs.declared.dialogue.Turn.TheVariants as turns
 use Rattle.pg_duel.specs.Prelude.{IsAfter}

@@ -1,4 +1,4 @@
-use Rattle.std.proofs.Common.{◌≡◌, ◌∙◌, Err, ap, inl, inr, refl, subst, sym}
+use Rattle.std.proofs.Common.{◌≡◌, Err, ap, inl, inr, refl}
 use Rattle.std.specs.Prelude.{option_copied}
 use Rattle.pg_check.specs.declared.checked.CheckFault.{CheckFault}
 use Rattle.pg_duel.proofs.Common.{StandsFor, err_from_is_err_and}

@@ -1,9 +1,10 @@
-use Rattle.std.proofs.Common.{◌≡◌, ◌∙◌, Err, None, Some, ap, inl, inr, refl, subst, sym}
+use Rattle.std.proofs.Common.{◌≡◌, Err, None, Some, ap, inr, refl, subst, sym}
 use Rattle.std.specs.Prelude.{option_copied}
 use Rattle.pg_duel.proofs.Common.{Game, IsFit, Side, chosen_claim, sitting_of}
 use Rattle.pg_player.specs.declared.player.OpenFault.{OpenFault}
 use Rattle.pg_duel.specs.Dueling.{PlaysBy, PlaysSeat, RefusesBy}
-use Rattle.pg_duel.proofs.Runs.{refuses_now, runs_more, starves_now, table_gives, table_quiet}
+use Rattle.pg_duel.proofs.Runs.{refuses_now, runs_more, starves_now, table_gives}
+use Rattle.pg_playing.proofs.Runs.{table_quiet}
 use Rattle.pg_duel.proofs.playing.play_side.Goals as goal
 
 pub returns-in-Err-NoClaim-clause-played : goal.returns-in-Err-NoClaim-clause-played

@@ -51,7 +51,7 @@ returns-in-Some-clause-told g c =
     let best = list_of c.in_ok-best.best in
     told_best (g.S.Finder.brings c.args.finder.now) c.args.order.budget json own
     (g.C.Console.told c.args.console.now) (g.C.Console.told c.say_text.new.console)
-    c.in_ok-trials.trials.items c.in_ok-trials.ensures best
+    c.in_ok-trials.trials.items c.in_ok-trials.ensures.trials best
     (c.in_ok-best.ensures
     ∙ ap (λ (ts : List Trial). best_tried own.turn ts) c.deref.ensures.value)
     c.as_str.result.now (c.as_str.ensures.value ∙ c.in_ok-text.ensures
@@ -66,7 +66,7 @@ returns-clause-told g c =
     let best = list_of c.in_ok-best.best in
     told_unknown (g.S.Finder.brings c.args.finder.now) c.args.order.budget json own
     (g.C.Console.told c.args.console.now) (g.C.Console.told c.say_text.new.console)
-    c.in_ok-trials.trials.items c.in_ok-trials.ensures best
+    c.in_ok-trials.trials.items c.in_ok-trials.ensures.trials best
     (c.in_ok-best.ensures
     ∙ ap (λ (ts : List Trial). best_tried own.turn ts) c.deref.ensures.value)
     c.as_str.result.now (c.as_str.ensures.value ∙ c.in_ok-text.ensures

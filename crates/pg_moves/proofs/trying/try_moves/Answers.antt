@@ -15,8 +15,8 @@ try_points-requires-clause-going g c =
     sym (c.in_ok-over.ensures ∙ ap (λ (p : Position). is_over own p) c.start.ensures)
     ∙ c.if-over.false
 
-pub returns-then-over : goal.returns-then-over
-returns-then-over g c =
+pub returns-then-over-clause-trials : goal.returns-then-over-clause-trials
+returns-then-over-clause-trials g c =
     let brings = g.S.Finder.brings c.args.finder.now in
     let own = c.args.game.now in
     subst (λ (ts : List Trial). AreTrials brings c.args.budget own ts)

@@ -81,8 +81,8 @@ loop-v-preserved g c =
       }
     ]
 
-pub returns : goal.returns
-returns g c =
+pub returns-clause-trials : goal.returns-clause-trials
+returns-clause-trials g c =
     let own = c.args.game.now in
     let brings = g.S.Finder.brings c.args.finder.now in
     let end : c.loop-v.v ≡ point_count own =

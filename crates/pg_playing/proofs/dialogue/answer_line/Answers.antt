@@ -66,6 +66,15 @@ returns-in-Help-clause-course g c =
     (ap (λ (asked : Reply). after_reply old.game old.events heard asked) c.in-Help.is)
     (c.note-in-Help.ensures.course heard)
 
+pub returns-in-NoCell-clause-course : goal.returns-in-NoCell-clause-course
+returns-in-NoCell-clause-course g c =
+    let old = c.args.session.now in
+    λ heard. goes_from c.args.table.look _ _ c.refuse-in-NoCell.result _ old.game old.game
+    (Notes old.events heard (notes.Refused faults.NoPoint))
+    (after_reply old.game old.events heard c.args.reply) refl
+    (ap (λ (asked : Reply). after_reply old.game old.events heard asked) c.in-NoCell.is)
+    (c.refuse-in-NoCell.ensures.course heard)
+
 pub returns-in-Unclear-clause-course : goal.returns-in-Unclear-clause-course
 returns-in-Unclear-clause-course g c =
     let old = c.args.session.now in

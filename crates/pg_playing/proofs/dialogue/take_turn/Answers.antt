@@ -1,7 +1,7 @@
 use Rattle.std.proofs.Common.{◌∙◌, ◌+◌, ap, refl, sym, take}
 use Rattle.pg_playing.proofs.Common.{Ended, Heard, Reply, Skipped, course_heard, read_reply}
 use Rattle.pg_playing.proofs.Common.{trimmed}
-use Rattle.pg_playing.specs.TableLog.{Closes, Listens, Notes, Steps, after_reply}
+use Rattle.pg_playing.specs.TableLog.{Leaves, Listens, Notes, Steps, after_reply}
 use Rattle.pg_messages.specs.declared.message.ReplyFault.TheVariants.{NoNumber}
 use Rattle.pg_playing.specs.declared.note.Note.TheVariants.{Refused}
 use Rattle.pg_playing.proofs.Courses.{breaks_read, goes_then}
@@ -44,8 +44,11 @@ returns-in-Ok-End-clause-course g c =
     let old = c.args.session.now in
     let look = c.args.table.look in
     let heard = rw c.in-Ok-End.field-0-is at c.in-Ok-End.ensures.heard in
-    λ lines. course_heard (Steps look old.game) _ _ _ heard.0 Ended (Listens old.events lines)
-    (Closes old.events) c.hear.auto.buf heard.1 (λ text e. cc e) heard.2 heard.3 refl
+    λ lines. goes_then (Steps look old.game) _ _ _ (Listens old.events lines) (Leaves old.events)
+    c.leave.result _
+    (course_heard (Steps look old.game) _ _ _ heard.0 Ended (Listens old.events lines)
+    (Leaves old.events) c.hear.auto.buf heard.1 (λ text e. cc e) heard.2 heard.3 refl)
+    (c.leave.ensures.course look old.game old.events (lines + 1))
 
 pub returns-in-Err-clause-course : goal.returns-in-Err-clause-course
 returns-in-Err-clause-course g c =

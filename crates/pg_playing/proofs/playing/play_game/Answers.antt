@@ -3,7 +3,7 @@ use Rattle.std.specs.Prelude.{option_copied}
 use Rattle.pg_playing.proofs.Common.{Course, Does, Game, Memory, Recorded, err_from_is_err_and}
 use Rattle.pg_playing.proofs.Common.{stopped_first}
 use Rattle.pg_playing.specs.Courses.{Breaks}
-use Rattle.pg_playing.specs.Playing.{PlaysGame, Stores}
+use Rattle.pg_playing.specs.Playing.{EndsWith, PlaysGame, Stores}
 use Rattle.pg_playing.specs.TableLog.{Closes, Shows, Steps}
 use Rattle.pg_playing.proofs.Runs.{plays_broken, plays_closed, stored_gives}
 use Rattle.pg_playing.proofs.playing.play_game.Goals as goal
@@ -36,7 +36,8 @@ returns-in_err-play_at_table-clause-played g c =
     let own = ap (λ (s : Recorded). s.game) c.in_ok-session.ensures in
     let stop = c.in_err-play_at_table.field-0.0 in
     rw (p.1, p.2)
-    (plays_broken c.args.order.look c.args.game.now (option_copied c.args.order.record)
+    (plays_broken (Steps c.args.order.look c.args.game.now) (Shows [] 0) EndsWith c.args.game.now
+    (option_copied c.args.order.record)
     (g.F.Files.told c.args.files.now) (g.C.Console.told c.args.console.now)
     (g.C.Console.told c.play_at_table.new.console) stop
     (subst (λ (k : Game). Breaks (Steps c.args.order.look k) (g.C.Console.told c.args.console.now)
@@ -47,10 +48,11 @@ pub returns-clause-played : goal.returns-clause-played
 returns-clause-played g c =
     let own = ap (λ (s : Recorded). s.game) c.in_ok-session.ensures in
     let events = c.play_at_table.new.session.events in
-    plays_closed c.args.order.look c.args.game.now (option_copied c.args.order.record)
+    plays_closed (Steps c.args.order.look c.args.game.now) (Shows [] 0) (Closes events) EndsWith
+    c.args.game.now (option_copied c.args.order.record)
     (g.F.Files.told c.args.files.now) (g.F.Files.told c.store.new.files)
     (g.C.Console.told c.args.console.now) (g.C.Console.told c.play_at_table.new.console)
-    (g.C.Console.told c.store.new.console) events
+    (g.C.Console.told c.store.new.console) events refl
     (subst (λ (k : Game). Course (Steps c.args.order.look k) (g.C.Console.told c.args.console.now)
     (g.C.Console.told c.play_at_table.new.console) (Shows [] 0) (Closes events)) own
     c.in_ok-play_at_table.ensures.course) c.store.result

@@ -1,6 +1,6 @@
 use Rattle.std.proofs.Common.{◌∙◌, sym}
 use Rattle.pg_game.specs.PositionLemmas.{equal_positions-decides}
-use Rattle.pg_pns.proofs.Meeting.{key-same}
+use Rattle.pg_met.proofs.Meeting.{key-same}
 use Rattle.pg_pns.proofs.descent.stands_at.Goals as goal
 
 pub returns : goal.returns

@@ -6,7 +6,7 @@ use Rattle.pg_pns.proofs.Common.{IsAt, is_over, one_at, undecided-going, get_or_
 use Rattle.pg_leaf.specs.Ahead.{IsAhead}
 use Rattle.pg_threat.proofs.Boards.{at_same}
 use Rattle.pg_leaf.specs.declared.ahead.Ahead.{Ahead}
-use Rattle.pg_pns.specs.declared.table.Table.{Table}
+use Rattle.pg_met.specs.declared.table.Table.{Table}
 use Rattle.pg_pns.specs.Search.{CanGrow, IsGrowing, IsSearch}
 use Rattle.pg_pns.proofs.Moving.{growing-start, growing-taken}
 use Rattle.pg_pns.proofs.Expanding.{grown-search}

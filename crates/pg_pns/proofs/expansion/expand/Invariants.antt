@@ -1,7 +1,7 @@
 use Rattle.std.proofs.Common.{◌≡◌, List, get_or}
 use Rattle.pg_pns.proofs.Common.{Position}
 use Rattle.pg_leaf.specs.Ahead.{IsAhead}
-use Rattle.pg_pns.specs.Reading.{IsKept}
+use Rattle.pg_met.specs.Reading.{IsKept}
 use Rattle.pg_pns.specs.Search.{CanGrow, IsGrowing}
 use Rattle.pg_pns.proofs.expansion.expand.Given as goal
 

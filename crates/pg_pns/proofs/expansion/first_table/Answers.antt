@@ -1,9 +1,9 @@
 use Rattle.std.proofs.Common.{◌≡◌, ◌∙◌, ◌<◌, ◌^◌, Bool, List, length, lit<, sym, subst}
 use Rattle.pg_pns.proofs.Common.{Game, IsPosition, Position, start}
 use Rattle.pg_game.proofs.Moves.{IsPosition-start}
-use Rattle.pg_pns.specs.Met.{IsLeafOf, IsMeeting}
-use Rattle.pg_pns.specs.Tree.{IsMetAt}
-use Rattle.pg_pns.proofs.Meeting.{first-new, key-same, met-from}
+use Rattle.pg_met.specs.Met.{IsLeafOf, IsMeeting}
+use Rattle.pg_met.specs.Tree.{IsMetAt}
+use Rattle.pg_met.proofs.Meeting.{first-new, key-same, met-from}
 use Rattle.pg_pns.proofs.Searching.{first-search}
 use Rattle.pg_pns.proofs.expansion.first_table.Goals as goal
 

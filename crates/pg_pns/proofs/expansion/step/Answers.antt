@@ -5,7 +5,7 @@ use Rattle.pg_pns.proofs.Common.{slice_get_within, keys_of, Contains, Position}
 use Rattle.pg_pns.proofs.Common.{Game, Score, IsTable, View, start, one_at, contains_at, at_old}
 use Rattle.pg_pns.proofs.Common.{at_new, Stand}
 use Rattle.pg_pns.specs.Prelude.{Switching}
-use Rattle.pg_pns.specs.declared.table.Table.{Table}
+use Rattle.pg_met.specs.declared.table.Table.{Table}
 use Rattle.pg_pns.specs.Search.{IsSearch, IsNext, CanGrow}
 use Rattle.pg_pns.proofs.Searching.{next-in, can-grow, few-from}
 use Rattle.pg_pns.specs.Descent.{first_stand}

@@ -1,5 +1,5 @@
-use Rattle.std.proofs.Common.{◌≡◌, ◌-◌, Some, ap, length, refl, subst, sym}
-use Rattle.pg_opponent.proofs.Common.{Claim, Event, arrives}
+use Rattle.std.proofs.Common.{◌≡◌, ◌-◌, Some, ap, length, subst, sym}
+use Rattle.pg_opponent.proofs.Common.{Claim, arrives}
 use Rattle.pg_opponent.specs.Sitting.{Sitting, sitting_of}
 use Rattle.pg_record.specs.Session.{Recorded}
 use Rattle.pg_opponent.proofs.Steps.{begins_with, begun_on}
@@ -8,7 +8,7 @@ use Rattle.pg_opponent.proofs.seat.Seat.begin.Goals as goal
 pub settle-requires : goal.settle-requires
 settle-requires c = begun_on c.args.checked.game.now c.in_ok-player.player c.in-Ok.session
     c.new.result.items c.new-2.result.items c.in_ok-player.ensures.game
-    c.in_ok-player.ensures.position c.in-Ok.ensures c.new.ensures.items
+    c.in_ok-player.ensures.position c.in-Ok.ensures c.new.ensures.items c.new-2.ensures.items
 
 pub returns-in-Ok-settle-clause-begins : goal.returns-in-Ok-settle-clause-begins
 returns-in-Ok-settle-clause-begins c =

@@ -5,12 +5,12 @@ use Rattle.pg_opponent.specs.Sitting.{sitting_of}
 use Rattle.pg_opponent.proofs.seat.Seat.settle.Given as goal
 
 -- the moves that were made so far are recorded
-abbrev pub invariant-loop-point : goal.invariant-loop-point
-invariant-loop-point l =
+abbrev pub invariant-loop-made : goal.invariant-loop-made
+invariant-loop-made l =
     IsOn l.fn.self.session.game l.fn.self.player.claim (sitting_of l.self)
     × Led (sitting_of l.fn.self) (sitting_of l.self)
     × (l.self.session.game ≡ l.fn.self.session.game)
 
 -- each move leaves fewer points free
-abbrev pub decreases-loop-point : goal.decreases-loop-point
-decreases-loop-point l = length (free_points l.self.player.game l.self.player.position)
+abbrev pub decreases-loop-made : goal.decreases-loop-made
+decreases-loop-made l = length (free_points l.self.player.game l.self.player.position)

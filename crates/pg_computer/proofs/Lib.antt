@@ -1,0 +1,6 @@
+mod Common
+pub mod Keeping
+pub mod Standing
+pub mod More
+pub mod Parts
+pub mod Runs

@@ -1,0 +1,4 @@
+pub mod Prelude
+pub mod Layouts
+pub mod LayoutFile
+pub mod Views

@@ -1,0 +1,9 @@
+pub mod Prelude
+pub mod Known
+pub mod Reading
+pub mod Claims
+pub mod Settles
+pub mod Table
+pub mod MetList
+pub mod Met
+pub mod Tree

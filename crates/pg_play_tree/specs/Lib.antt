@@ -1,0 +1,4 @@
+pub mod Prelude
+pub mod Lines
+pub mod Tree
+pub mod Places

@@ -1,0 +1,34 @@
+-- Lines of play: what a side's player does from its opening on, whatever the other side replies.
+use Rattle.std.specs.Prelude.{◌≡◌, ◌⊎◌, ℕ, ◌-◌, List, [], ◌∷◌, length, Some}
+use Rattle.pg_play_tree.specs.Prelude.{Cert, Game, MakesMove, Play, Position, Side, TakesReply}
+use Rattle.pg_play_tree.specs.Prelude.{Waits, arrives, chosen_claim, start}
+
+-- the player of the side is opened: it is at the game's position, and at the root of its claim
+pub record Opens (g : Game) (cert : Cert) (side : Side) (a : Play) : Type 0 where
+  pub game : a.game ≡ g
+  pub claim : chosen_claim g cert side ≡ Some a.claim
+  pub position : a.position ≡ start g
+  pub standing : arrives a.claim.nodes (length a.claim.nodes - 1) ≡ Some a.standing
+
+-- the player makes its own move, or it waits and takes a legal reply
+abbrev pub Follows : Play → Play → Type 0
+Follows a b = (v : ℕ) × (MakesMove a b v ⊎ (Waits a × TakesReply a b v))
+
+-- where the player stands along a line of play from its opening on, the last first
+abbrev pub IsLine : Game → Cert → Side → List Play → Type 0
+IsLine g cert side [] = ⊥
+IsLine g cert side (a ∷ []) = Opens g cert side a
+IsLine g cert side (b ∷ a ∷ earlier) = Follows a b × IsLine g cert side (a ∷ earlier)
+
+-- a line of play comes to where the player stands
+abbrev pub ComesTo : Game → Cert → Side → Play → Type 0
+ComesTo g cert side a = (earlier : List Play) × IsLine g cert side (a ∷ earlier)
+
+-- THE CLAIMER'S OWN MOVE: on some line of play the side's player comes to the position, and moves
+-- to v there by the rule of its claim
+pub record IsOwnMove (g : Game) (cert : Cert) (side : Side) (p : Position) (v : ℕ) : Type 0 where
+  pub before : Play
+  pub now : Play
+  pub comes : ComesTo g cert side before
+  pub position : before.position ≡ p
+  pub makes : MakesMove before now v
