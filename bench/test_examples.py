@@ -7,6 +7,7 @@ import unittest
 
 import catalogue
 import checked
+import edits
 import families
 import lay_out
 import same_search
@@ -16,8 +17,8 @@ import theorem
 import tutorial
 import width
 
-SCRIPTS = (catalogue, checked, families, lay_out, same_search, settling, table, theorem, tutorial,
-           width)
+SCRIPTS = (catalogue, checked, edits, families, lay_out, same_search, settling, table, theorem,
+           tutorial, width)
 
 
 def load_tests(_: unittest.TestLoader, tests: unittest.TestSuite, __: object) -> unittest.TestSuite:

@@ -12,6 +12,7 @@ Its examples are tried by `bench/test_examples.py`. Nothing is proved of this sc
 from __future__ import annotations
 
 import itertools
+import pathlib
 import re
 import sys
 import textwrap
@@ -213,6 +214,11 @@ def is_there(crate: str, path: str, clauses: list[str]) -> bool:
     return False
 
 
+def edit_folders(crate: str) -> list[pathlib.Path]:
+    """Returns where the must-fail edits of a crate are: those that the gate tries, and others."""
+    return [kit.TOP / "crates" / crate / "must-fail", kit.TOP / "bench" / "edits" / crate]
+
+
 def lost(text: str) -> list[str]:
     """The names on the page that aren't in the sources: functions, clauses, and must-fail edits."""
     flat = " ".join(text.split())
@@ -221,7 +227,7 @@ def lost(text: str) -> list[str]:
              if not is_there(crate, path, re.findall(r"\w+", clauses))]
     for names, crate in re.findall(r"((?:`[a-z0-9-]+`(?:, | and )?)+) of `(pg_\w+)`", flat):
         for name in re.findall(r"`([a-z0-9]+(?:-[a-z0-9]+)+)`", names):
-            if not (kit.TOP / "crates" / crate / "must-fail" / f"{name}.edit").is_file():
+            if not any((folder / f"{name}.edit").is_file() for folder in edit_folders(crate)):
                 wrong.append(f"edit {name} of {crate}")
     return wrong
 
