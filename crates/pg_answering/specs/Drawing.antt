@@ -8,7 +8,7 @@ use Rattle.pg_io.specs.Console.{Grows}
 use Rattle.pg_io.specs.Files.{Bytes, ReadsOnly}
 use Rattle.pg_drawing.specs.Orders.{order_of}
 use Rattle.pg_drawing.specs.Runs.{IsLacking, IsStopped, Ran, statuses_of}
-use Rattle.pg_scene.specs.Look.{whole_look}
+use Rattle.pg_captions.specs.Look.{whole_look}
 use Rattle.pg_talk.specs.Halts.{HasCause}
 use Rattle.pg_talk.specs.Reading.{IsLackingTwo}
 use Rattle.pg_answering.specs.Machine.{Told}

@@ -5,8 +5,8 @@ ghost use Rattle.pg_answering.specs.Drawing.{Draws, DrawsPicture, PrintsBook, sh
 
 use crate::machine::Machine;
 use pg_binding::{BookOrder, bind};
+use pg_captions::Look;
 use pg_drawing::draw;
-use pg_scene::Look;
 use std::alloc::Global;
 
 /// Prints the picture that the words ask for.

@@ -15,7 +15,7 @@ use Rattle.pg_scene.specs.Limits.{IsBridge}
 use Rattle.pg_scene.specs.Scenes.{IsBoardOf}
 use Rattle.pg_scene.specs.declared.board.Board.{Board}
 use Rattle.pg_scene.specs.declared.board.Board.TheVariants.{Graph}
-use Rattle.pg_scene.specs.declared.look.Look.{Look}
+use Rattle.pg_captions.specs.declared.look.Look.{Look}
 use Rattle.pg_book.specs.Boards.{are_same, board_of}
 use Rattle.pg_book.specs.Scenes.{page_look}
 unfoldable use Rattle.pg_book.specs.Boards.{is_bridge, rows_below, rows_of}

@@ -25,7 +25,7 @@ use Rattle.pg_page.specs.declared.piece.Piece.TheVariants as pieces
 use Rattle.pg_page.specs.declared.tag.LoneTag.TheVariants as lone
 use Rattle.pg_page.specs.declared.tag.Tag.TheVariants as tags
 use Rattle.pg_picture.specs.declared.picture.Picture.{Picture}
-use Rattle.pg_scene.specs.Legends.{body_lines}
+use Rattle.pg_captions.specs.Legends.{body_lines}
 use Rattle.pg_book.specs.Books.{board_pieces, book_pieces, chapter_of, charset_pieces}
 use Rattle.pg_book.specs.Books.{claim_by, claims_pieces, detail_pieces, entries_pieces, entry_by}
 use Rattle.pg_book.specs.Books.{entry_pieces, entry_words, form_pieces, head_pieces, header_pieces}

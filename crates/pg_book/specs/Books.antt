@@ -26,8 +26,8 @@ use Rattle.pg_page.specs.declared.tag.LoneTag.TheVariants as lone
 use Rattle.pg_page.specs.declared.tag.Tag.TheVariants as tags
 unfoldable use Rattle.pg_picture.specs.Svg.{picture_text}
 use Rattle.pg_picture.specs.declared.picture.Picture.{Picture}
-use Rattle.pg_scene.specs.Legends.{body_lines}
-use Rattle.pg_scene.specs.Words.{side_name}
+use Rattle.pg_captions.specs.Legends.{body_lines}
+use Rattle.pg_captions.specs.Words.{side_name}
 use Rattle.pg_book_parts.specs.Chapters.{link_pieces, number_text, page_id, shown}
 use Rattle.pg_book_parts.specs.Elements.{element, labelled, paragraph}
 use Rattle.pg_book_parts.specs.Pictures.{over_pieces, shape_pieces, view_text}

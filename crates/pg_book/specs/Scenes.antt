@@ -14,8 +14,8 @@ use Rattle.pg_scene.specs.Items.{body_items, fault_items, line_items, point_item
 use Rattle.pg_scene.specs.declared.board.Board.{Board}
 use Rattle.pg_scene.specs.declared.item.Item.{Item}
 use Rattle.pg_scene.specs.declared.item.Item.TheVariants as items
-use Rattle.pg_scene.specs.declared.look.Legend.TheVariants.{OfBody}
-use Rattle.pg_scene.specs.declared.look.Look.{Look}
+use Rattle.pg_captions.specs.declared.look.Legend.TheVariants.{OfBody}
+use Rattle.pg_captions.specs.declared.look.Look.{Look}
 use Rattle.pg_scene.specs.declared.scene.Scene.{Scene}
 use Rattle.pg_book.specs.Boards.{board_of}
 

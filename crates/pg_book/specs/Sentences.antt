@@ -13,7 +13,7 @@ use Rattle.pg_cert.specs.declared.reply.Reply.{Reply}
 use Rattle.pg_page.specs.declared.piece.Piece.{Piece}
 use Rattle.pg_page.specs.declared.piece.Piece.TheVariants as pieces
 use Rattle.pg_page.specs.declared.tag.Tag.TheVariants as tags
-use Rattle.pg_scene.specs.Words.{side_name}
+use Rattle.pg_captions.specs.Words.{side_name}
 use Rattle.pg_book_parts.specs.Chapters.{link_pieces}
 use Rattle.pg_book_parts.specs.Elements.{element, labelled, paragraph}
 use Rattle.pg_book_parts.specs.Words.{act_words, point_words, side_words}

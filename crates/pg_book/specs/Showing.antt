@@ -5,7 +5,7 @@ use Rattle.pg_cert.specs.Node.{position_of}
 use Rattle.pg_cert.specs.declared.node.Node.{Node}
 use Rattle.pg_draw.specs.Pictures.{picture_of}
 use Rattle.pg_game.specs.declared.game.Game.{Game}
-use Rattle.pg_scene.specs.Legends.{body_lines}
+use Rattle.pg_captions.specs.Legends.{body_lines}
 use Rattle.pg_book.specs.Scenes.{page_look, page_scene}
 use Rattle.pg_book.specs.declared.scenes.Shown.{Shown}
 

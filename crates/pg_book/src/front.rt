@@ -12,12 +12,12 @@ ghost use Rattle.pg_book.specs.Books.{legend_pieces, meta_pieces, metas_pieces};
 use crate::sheet::push_sheet;
 use pg_base::{Goal, Kind, Memory};
 use pg_book_parts::{Chapter, push_link, push_paragraph, push_plain};
+use pg_captions::side_name;
 use pg_cert::Claim;
 use pg_game::Game;
 use pg_near::near_count;
 use pg_page::{Attributes, LoneTag, Name, Piece, Tag, push_close, push_open, push_words};
 use pg_picture::{Picture, Text};
-use pg_scene::side_name;
 use std::alloc::{AllocError, Global};
 use std::fmt::Write;
 

@@ -14,14 +14,14 @@ ghost use Rattle.pg_book.specs.Showing.{IsShownOf};
 
 use pg_base::{Memory, PointSet, Side};
 use pg_book_parts::{Layout, Page};
+use pg_captions::{Legend, Look, Texts, text_of};
 use pg_cert::Cert;
 use pg_draw::draw;
 use pg_game::{Game, Position};
 use pg_picture::Picture;
 use pg_places::{Courses, Plan};
 use pg_scene::{
-    Board, Item, Items, Legend, Look, Scene, Texts, put_points, scene_of_game, scene_of_node,
-    scenes_can_be_laid_out, text_of,
+    Board, Item, Items, Scene, put_points, scene_of_game, scene_of_node, scenes_can_be_laid_out,
 };
 use std::alloc::Global;
 

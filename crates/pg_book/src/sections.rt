@@ -16,11 +16,11 @@ use pg_book_parts::{
     Chapter, Layout, Page, number_after, page_id, push_labelled, push_link, push_over, push_plain,
     push_shapes, view_of,
 };
+use pg_captions::Text;
 use pg_cert::{Body, Cert, Claim};
 use pg_game::Game;
 use pg_page::{Attributes, Name, Piece, Tag, push_close, push_open, push_words};
 use pg_picture::Picture;
-use pg_scene::Text;
 use std::alloc::Global;
 
 /// Adds a picture, with what is over it.

@@ -11,10 +11,10 @@ use pg_base::{Kind, Memory, Side};
 use pg_book_parts::{
     Chapter, Layout, act_words, push_link, push_paragraph, push_plain, put_point, side_words,
 };
+use pg_captions::side_name;
 use pg_cert::{Body, Reply};
 use pg_page::{Piece, Tag, push_close, push_open, push_words};
 use pg_picture::Text;
-use pg_scene::side_name;
 use std::alloc::Global;
 
 /// What is said of a claimer when the game is over.

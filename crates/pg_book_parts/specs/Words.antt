@@ -6,7 +6,7 @@ use Rattle.pg_base.specs.declared.kind.Kind.{Kind}
 use Rattle.pg_base.specs.declared.side.Side.{Side}
 use Rattle.pg_scene.specs.declared.board.Board.{Board}
 use Rattle.pg_scene.specs.declared.board.Board.TheVariants.{Graph, Grid, Laid, Ring}
-use Rattle.pg_scene.specs.Words.{side_name}
+use Rattle.pg_captions.specs.Words.{side_name}
 use Rattle.pg_book_parts.specs.declared.layout.Layout.{Layout}
 
 -- whether the point is the cell in the middle: the rows and the columns are odd in number, and as

@@ -6,8 +6,9 @@ ghost use Rattle.pg_book_parts.specs.Words.{point_words, side_words};
 
 use crate::layout::Layout;
 use pg_base::{Kind, Memory, Side};
+use pg_captions::side_name;
 use pg_picture::Text;
-use pg_scene::{Board, side_name};
+use pg_scene::Board;
 use std::alloc::{AllocError, Global};
 use std::fmt::Write;
 

@@ -25,6 +25,6 @@ pub use Rattle.pg_scene.specs.Limits.{IsBoard, points_on, vertices_on}
 pub use Rattle.pg_scene.specs.declared.board.Board.{Board}
 pub use Rattle.pg_scene.specs.declared.board.Board.TheVariants.{Graph, Grid, Laid, Ring}
 pub use Rattle.pg_scene.specs.declared.item.Item.{Item}
-pub use Rattle.pg_scene.specs.declared.look.Look.{Look}
+pub use Rattle.pg_captions.specs.declared.look.Look.{Look}
 pub use Rattle.pg_scene.specs.declared.scene.Scene.{Scene}
 pub use Rattle.std.specs.List.{flat_map, range_with_len}

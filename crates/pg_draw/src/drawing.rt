@@ -3,7 +3,7 @@ ghost use Rattle.std.specs.Prelude.{◌≡◌, ◌++◌, ◌<◌, ◌≤◌, OnO
 ghost use Rattle.pg_draw.specs.Prelude.{flat_map, range_with_len, IsBoard, IsPlan};
 ghost use Rattle.pg_draw.specs.Shapes.{bar_shapes, vertex_paint, vertex_shapes, vertices_shapes};
 ghost use Rattle.pg_draw.specs.Pictures.{height_of, legend_shapes, picture_of, shapes_of, width_of};
-ghost use Rattle.pg_scene.specs.declared.lines.TheConstants.{MAX_LEGEND_LINES};
+ghost use Rattle.pg_captions.specs.declared.lines.TheConstants.{MAX_LEGEND_LINES};
 
 use crate::boards::courses_of;
 use crate::items::push_items;
@@ -14,9 +14,10 @@ use crate::sheet::{boards_of, columns_for, copy_places, rows_for, times};
 use crate::size::{far_corner, text_width, widest};
 use crate::words::{push_number_if, push_words, text_of};
 use pg_base::Memory;
+use pg_captions::{Look, Text};
 use pg_picture::{Paint, Picture, Place, Shape, Shapes};
 use pg_places::{Courses, MARGIN, Plan, place_on_bridge};
-use pg_scene::{Board, Look, Scene, Text};
+use pg_scene::{Board, Scene};
 use std::alloc::Global;
 
 /// Adds the bar of a terminal of a Bridg-It board, from the first row on.

@@ -16,12 +16,13 @@ use crate::measures::{
 use crate::paints::{pair_paint, set_paint, step_paint};
 use crate::words::{push_note, push_number, push_number_note, push_plate};
 use pg_base::Memory;
+use pg_captions::Text;
 use pg_picture::{Paint, Place, Shape};
 use pg_places::{
     Course, Courses, MAX_MIDDLE_REACH, Plan, bend_of, lower, lower_right, middle_of, parallels,
     upper_left, upper_right,
 };
-use pg_scene::{Board, Item, Set, Text};
+use pg_scene::{Board, Item, Set};
 use std::alloc::Global;
 
 /// The place of a lane beside another.

@@ -9,13 +9,14 @@ use crate::measures::{
     LEGEND_LETTER, MAX_BOARD_REACH, MAX_CORNER_REACH, MAX_COUNTED_LETTERS, MAX_LETTER_WIDTH,
     MAX_TEXT_WIDTH,
 };
+use pg_captions::Text;
 use pg_layout::Spot;
 use pg_picture::Place;
 use pg_places::{
     APART, CELL, Courses, HALF, MARGIN, MAX_ON_RING, Plan, ROW, TOP, columns_of, place_of_spot,
     radius_of,
 };
-use pg_scene::{Board, Text};
+use pg_scene::Board;
 
 /// How far a circle reaches on which so many lie.
 #[tactic(auto, unfolding(crate::specs::Pictures::circle_reach))]

@@ -25,13 +25,13 @@ use Rattle.pg_judge.proofs.ShortCerts.{fault_alike, member, there, valid_alike}
 use Rattle.pg_scene.specs.Items.{body_items, fault_items, line_items, numbered, pair_item}
 use Rattle.pg_scene.specs.Items.{pair_items, point_items}
 use Rattle.pg_scene.specs.Scenes.{AreNamed, IsSceneOf}
-use Rattle.pg_scene.specs.Legends.{body_lines, claim_line, fault_lines, node_by, node_legend}
-use Rattle.pg_scene.specs.Legends.{position_lines}
-use Rattle.pg_scene.specs.Words.{node_title}
+use Rattle.pg_captions.specs.Legends.{body_lines, claim_line, fault_lines, node_by, node_legend}
+use Rattle.pg_captions.specs.Legends.{position_lines}
+use Rattle.pg_captions.specs.Words.{node_title}
 use Rattle.pg_scene.specs.declared.item.Item.{Item}
-use Rattle.pg_scene.specs.declared.look.Legend.{Legend}
-use Rattle.pg_scene.specs.declared.look.Legend.TheVariants.{Absent, OfBody, Whole}
-use Rattle.pg_scene.specs.declared.look.Look.{Look}
+use Rattle.pg_captions.specs.declared.look.Legend.{Legend}
+use Rattle.pg_captions.specs.declared.look.Legend.TheVariants.{Absent, OfBody, Whole}
+use Rattle.pg_captions.specs.declared.look.Look.{Look}
 use Rattle.pg_scene.specs.declared.scene.Scene.{Scene}
 use Rattle.pg_drawing.proofs.Common.{Bytes, Cert, Game, LacksNode}
 use Rattle.pg_drawing.specs.Due.{DrawsNode, IsCertDue}

@@ -4,7 +4,7 @@ use Rattle.std.proofs.Common.{subst, inl, inr, string_bytes, true≢false}
 use Rattle.pg_drawing.proofs.Common.{Bytes, Cert, DONE, Evidence, Game, Halt, Holding}
 use Rattle.pg_drawing.proofs.Common.{MakesStanding, OpensEvidence, OpensSpanCert, Refused, SpanCert}
 use Rattle.pg_drawing.proofs.Common.{SpanGame, Stopped, entry, evidence_held, span_entry}
-use Rattle.pg_scene.specs.declared.look.Look.{Look}
+use Rattle.pg_captions.specs.declared.look.Look.{Look}
 use Rattle.pg_drawing.specs.Boards.{begins_otherwise, board_entry, connectivity_pair, plain_or}
 use Rattle.pg_drawing.specs.Boards.{positional_pair, with_certificate}
 use Rattle.pg_drawing.specs.Boards.BoardEntry.{Positional, Connectivity}

@@ -10,7 +10,7 @@ use Rattle.pg_span.specs.Flaw.{flaw_number}
 use Rattle.pg_span.specs.declared.flaw.SpanFlaw.{SpanFlaw}
 use Rattle.pg_messages.specs.Texts.{refusal_text}
 use Rattle.pg_picture.specs.Svg.{picture_text}
-use Rattle.pg_scene.specs.declared.look.Look.{Look}
+use Rattle.pg_captions.specs.declared.look.Look.{Look}
 use Rattle.pg_scene.specs.declared.scene.Scene.{Scene}
 use Rattle.pg_scene.specs.SpanScenes.{IsSceneOfSpanClaim, IsSceneOfSpanGame}
 use Rattle.pg_draw.specs.Pictures.{picture_of}

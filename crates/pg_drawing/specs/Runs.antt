@@ -7,7 +7,7 @@ use Rattle.pg_drawing.specs.Prelude.{NO_MEMORY, IsGameHalt, IsReadHalt, IsLackin
 use Rattle.pg_drawing.specs.Prelude.{Halt, Refused}
 use Rattle.pg_io.specs.Causes.{Rose}
 use Rattle.pg_io.specs.declared.entry.Entry.TheVariants.{Said}
-use Rattle.pg_scene.specs.declared.look.Look.{Look}
+use Rattle.pg_captions.specs.declared.look.Look.{Look}
 use Rattle.pg_drawing.specs.Boards.{board_held, both_held}
 use Rattle.pg_drawing.specs.Due.{IsDue}
 use Rattle.pg_drawing.specs.Orders.{Order}

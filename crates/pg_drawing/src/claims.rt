@@ -9,8 +9,9 @@ ghost use Rattle.pg_drawing.specs.Orders.{chosen_claim};
 use crate::name::{NodeName, chosen_claim};
 use crate::picturing::{Telling, no_node, text_of};
 use pg_base::Memory;
+use pg_captions::Look;
 use pg_messages::{DONE, REFUSED};
-use pg_scene::{Look, scene_of_span_claim, scene_of_span_game, span_scenes_can_be_laid_out};
+use pg_scene::{scene_of_span_claim, scene_of_span_game, span_scenes_can_be_laid_out};
 use pg_span::{SpanCert, SpanFault, SpanFlaw, SpanGame, span_check};
 use std::alloc::Global;
 

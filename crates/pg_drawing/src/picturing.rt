@@ -8,12 +8,13 @@ ghost use Rattle.pg_drawing.specs.Orders.{chosen};
 
 use crate::name::{NodeName, chosen};
 use pg_base::Memory;
+use pg_captions::Look;
 use pg_cert::Cert;
 use pg_check::{CheckFault, check};
 use pg_game::Game;
 use pg_messages::{DONE, NO_MEANING, REFUSED};
 use pg_picture::print_picture;
-use pg_scene::{Look, Scene, scene_of_game, scene_of_node, scenes_can_be_laid_out};
+use pg_scene::{Scene, scene_of_game, scene_of_node, scenes_can_be_laid_out};
 use std::alloc::Global;
 
 /// What is said where the certificate has no such node.

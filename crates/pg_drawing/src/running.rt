@@ -5,9 +5,9 @@ ghost use Rattle.pg_drawing.specs.Orders.{order_of};
 ghost use Rattle.pg_drawing.specs.Runs.{EndsWith, IsLacking, IsStopped, Ran, statuses_of};
 
 use crate::telling::tell;
+use pg_captions::Look;
 use pg_io::{Console, Files, Stop};
 use pg_messages::{NO_MEMORY, READ_FAILED, WRITE_FAILED};
-use pg_scene::Look;
 use pg_talk::{Halt, say_text};
 use std::alloc::Global;
 

@@ -6,9 +6,9 @@ ghost use Rattle.pg_drawing.specs.Runs.{IsCertEnd};
 
 use crate::name::NodeName;
 use crate::picturing::{Telling, tell_certificate};
+use pg_captions::Look;
 use pg_evidence::{Evidence, standing_of};
 use pg_game::Game;
-use pg_scene::Look;
 use pg_talk::Halt;
 use std::alloc::Global;
 

@@ -6,7 +6,7 @@ use Rattle.pg_base.specs.Texts.{Bytes}
 use Rattle.pg_base.specs.declared.kind.Kind.{Kind}
 use Rattle.pg_base.specs.declared.side.Side.{Side}
 use Rattle.pg_base.specs.declared.side.Side.TheVariants.{X, Y}
-use Rattle.pg_scene.specs.Words.{side_name}
+use Rattle.pg_captions.specs.Words.{side_name}
 
 -- what the claim of a side says, by who moves first
 abbrev pub said_words : Kind → Side → Side → Bytes

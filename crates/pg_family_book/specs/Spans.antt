@@ -9,10 +9,11 @@ unfoldable use Rattle.pg_draw.specs.Pictures.{picture_of}
 use Rattle.pg_graph.specs.Graph.{edge_count}
 use Rattle.pg_picture.specs.declared.picture.Picture.{Picture}
 use Rattle.pg_scene.specs.Items.{fault_items, point_items}
-use Rattle.pg_scene.specs.SpanScenes.{span_items, span_title}
+use Rattle.pg_scene.specs.SpanScenes.{span_items}
+use Rattle.pg_captions.specs.SpanLegends.{span_title}
 use Rattle.pg_scene.specs.declared.board.Board.TheVariants.{Graph}
-use Rattle.pg_scene.specs.declared.look.Legend.TheVariants.{Absent}
-use Rattle.pg_scene.specs.declared.look.Look.{Look}
+use Rattle.pg_captions.specs.declared.look.Legend.TheVariants.{Absent}
+use Rattle.pg_captions.specs.declared.look.Look.{Look}
 use Rattle.pg_scene.specs.declared.scene.Scene.{Scene}
 use Rattle.pg_span.specs.Game.{marks_at}
 use Rattle.pg_span.specs.declared.cert.SpanBody.{SpanBody}

@@ -1,8 +1,8 @@
 //! The pages of claims, each of which one rule shows.
 ghost use Rattle.std.specs.Prelude.{◌≡◌};
 
+use pg_captions::Texts;
 use pg_picture::{Picture, Text};
-use pg_scene::Texts;
 use std::marker::Model;
 
 /// The rows of a table, each a list of cells.

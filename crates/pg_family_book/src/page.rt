@@ -9,8 +9,8 @@ use crate::tables::{push_picture, push_table};
 use pg_base::Memory;
 use pg_book::{LEGEND, page_attributes, push_heading};
 use pg_book_parts::{Chapter, Page, push_labelled, push_paragraph};
+use pg_captions::Text;
 use pg_page::{Attributes, Name, Piece, Tag, push_close};
-use pg_scene::Text;
 use std::alloc::Global;
 
 /// What the one page of a claim is numbered by.

@@ -4,7 +4,7 @@ ghost use Rattle.pg_base.specs.declared.limits.TheConstants.{MAX_MEMBERS};
 ghost use Rattle.pg_family_book.specs.Rules.{said_words, set_words, whose};
 
 use pg_base::{Kind, Memory, PointSet, Side};
-use pg_scene::{Text, side_name, text_of};
+use pg_captions::{Text, side_name, text_of};
 use std::alloc::Global;
 
 /// What a claim says.

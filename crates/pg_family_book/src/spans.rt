@@ -16,9 +16,10 @@ use crate::leaf::{Leaf, Rows, Table};
 use crate::printing::print_leaves;
 use crate::rules::{put_number, put_text, said_words, set_words, whose};
 use pg_base::{Kind, MAX_EDGES, Memory};
+use pg_captions::{Legend, Look, Text, Texts};
 use pg_draw::draw;
 use pg_picture::Picture;
-use pg_scene::{Legend, Look, Text, Texts, scene_of_span_claim, span_scenes_can_be_laid_out};
+use pg_scene::{scene_of_span_claim, span_scenes_can_be_laid_out};
 use pg_span::{SpanBody, SpanCert, SpanClaim, SpanGame};
 use std::alloc::Global;
 

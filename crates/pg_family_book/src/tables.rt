@@ -9,9 +9,9 @@ ghost use Rattle.pg_family_book.specs.Leaves.{table_pieces};
 use crate::leaf::Table;
 use pg_base::Memory;
 use pg_book_parts::{push_plain, push_shapes, view_of};
+use pg_captions::{Text, Texts};
 use pg_page::{Attributes, Name, Piece, Tag, push_close, push_open};
 use pg_picture::Picture;
-use pg_scene::{Text, Texts};
 use std::alloc::Global;
 
 /// What a reader of the screen says of a picture.

@@ -14,9 +14,9 @@ use crate::leaf::{Leaf, Rows, Table};
 use crate::printing::print_leaves;
 use crate::rules::{put_number, put_text, said_words, set_words, whose};
 use pg_base::{Kind, Memory};
+use pg_captions::{Text, Texts};
 use pg_cert::{Body, Cert, Claim};
 use pg_gf2::{MAX_VECTORS, VecGame};
-use pg_scene::{Text, Texts};
 use std::alloc::{AllocError, Global};
 
 /// What words mean in books of games on vectors.

@@ -25,7 +25,7 @@ pub use Rattle.pg_record.specs.Views.{number_of}
 pub use Rattle.pg_record.specs.declared.event.Event.{Event}
 pub use Rattle.pg_record.specs.declared.fault.Fault.{Fault}
 pub use Rattle.pg_scene.specs.Recorded.{IsSceneOfMoves}
-pub use Rattle.pg_scene.specs.declared.look.Look.{Look}
+pub use Rattle.pg_captions.specs.declared.look.Look.{Look}
 pub use Rattle.pg_scene.specs.declared.scene.Scene.{Scene}
 pub use Rattle.pg_talk.specs.Halts.{HaltCauses, HasCause, IsGameHalt, stop_status}
 pub use Rattle.pg_talk.specs.Opening.{IsSaidBy}

@@ -5,11 +5,12 @@ ghost use Rattle.pg_replaying.specs.Prelude.{position_after, start};
 ghost use Rattle.pg_replaying.specs.Due.{DrawsMoves, IsMovesDue, SaysNoMove, wanted};
 
 use pg_base::Memory;
+use pg_captions::Look;
 use pg_drawing::Telling;
 use pg_game::{Game, Judge, Position};
 use pg_messages::{DONE, NO_MEANING};
 use pg_picture::print_picture;
-use pg_scene::{Look, scene_of_moves, scenes_can_be_laid_out};
+use pg_scene::{scene_of_moves, scenes_can_be_laid_out};
 use std::alloc::Global;
 
 /// The line that is said if there are fewer moves than are asked for.

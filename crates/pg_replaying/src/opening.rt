@@ -9,11 +9,11 @@ ghost use Rattle.pg_replaying.specs.Runs.{IsRecordEnd, LacksRecord, LacksRecordO
 use crate::drawing::tell_moves;
 use crate::moves::open_moves;
 use crate::order::RecordOrder;
+use pg_captions::Look;
 use pg_drawing::{Board, Telling, open_board};
 use pg_game::Game;
 use pg_io::Files;
 use pg_messages::Refusal;
-use pg_scene::Look;
 use pg_talk::Halt;
 use std::alloc::Global;
 

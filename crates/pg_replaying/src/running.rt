@@ -5,10 +5,10 @@ ghost use Rattle.pg_replaying.specs.Runs.{LacksRecord, Ran, record_statuses};
 
 use crate::opening::tell;
 use crate::order::RecordOrder;
+use pg_captions::Look;
 use pg_drawing::end_with;
 use pg_io::{Console, Files, Stop};
 use pg_messages::{NO_MEMORY, READ_FAILED, WRITE_FAILED};
-use pg_scene::Look;
 use pg_talk::Halt;
 use std::alloc::Global;
 

@@ -1,6 +1,5 @@
 mod Common
 pub mod Growing
-pub mod Lightest
 pub mod Matching
 pub mod Within
 pub mod ReadBack

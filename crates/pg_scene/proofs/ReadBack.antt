@@ -12,10 +12,12 @@ use Rattle.pg_scene.proofs.Common.{start, Game, Position}
 use Rattle.std.proofs.lemmas.List.{take_all}
 use Rattle.std.proofs.lemmas.List.Folds.{flat_map-map}
 use Rattle.pg_cert.specs.declared.node.Body.TheVariants as bodies
-use Rattle.pg_scene.specs.Items.{are_drawn, body_items, fault_items, lane_after, line_item}
+use Rattle.pg_captions.specs.Look.{are_drawn}
+use Rattle.pg_scene.specs.Items.{body_items, fault_items, lane_after, line_item}
 use Rattle.pg_scene.specs.Items.{line_items, mark_of, member_items, numbered, pair_item}
 use Rattle.pg_scene.specs.Items.{point_items, reply_item}
-use Rattle.pg_scene.specs.Items.{seen_at, seen_if, set_items, step_item, units, weight_items}
+use Rattle.pg_captions.specs.Look.{seen_at}
+use Rattle.pg_scene.specs.Items.{seen_if, set_items, step_item, units, weight_items}
 use Rattle.pg_scene.specs.Read.{first_in, pair_in, point_in, reply_in, second_in}
 use Rattle.pg_scene.specs.Recorded.{IsSceneOfMoves, move_items}
 use Rattle.pg_scene.specs.Scenes.{IsSceneOf, IsSceneOfGame}
@@ -23,7 +25,7 @@ use Rattle.pg_scene.specs.declared.item.Item.{Item}
 use Rattle.pg_scene.specs.declared.item.Item.TheVariants as items
 use Rattle.pg_scene.specs.declared.item.Set.{Set}
 use Rattle.pg_scene.specs.declared.item.Set.TheVariants.{First, Second}
-use Rattle.pg_scene.specs.declared.look.Look.{Look}
+use Rattle.pg_captions.specs.declared.look.Look.{Look}
 use Rattle.pg_scene.specs.declared.scene.Scene.{Scene}
 
 -- ---- lists in which nothing is read, or all

@@ -8,8 +8,9 @@ use Rattle.pg_scene.proofs.Common.{is_on, line_weight, point_weight, Game, Posit
 use Rattle.pg_scene.proofs.Common.{line_weight-clear, line_weight-touched}
 use Rattle.std.proofs.lemmas.List.Sums.{count_by-le-length, sum_by-cons}
 use Rattle.std.proofs.lemmas.Nat.{pow-add}
-use Rattle.pg_scene.proofs.Lightest.{free_on-clear, free_on-touched}
-use Rattle.pg_scene.specs.Items.{free_on, most_free, unit_weight, units_by}
+use Rattle.pg_captions.proofs.Lightest.{free_on-clear, free_on-touched}
+use Rattle.pg_captions.specs.Lightest.{free_on, most_free}
+use Rattle.pg_scene.specs.Items.{unit_weight, units_by}
 
 -- ---- how many free points there are
 

@@ -1,27 +1,26 @@
 -- Each item of a connectivity game's scene can stand on its board.
-use Rattle.std.proofs.Common.{◌≡◌, ℕ, ◌<◌, ◌≤◌, false, [], ◌∷◌, ◌++◌, length, Option, Some, None}
+use Rattle.std.proofs.Common.{◌≡◌, ℕ, ◌<◌, ◌≤◌, [], ◌++◌, length, Option, Some, None}
 use Rattle.std.proofs.Common.{sym, ap}
 use Rattle.std.proofs.Common.{subst, arith}
-use Rattle.std.specs.Prelude.{codes, nat_lt}
-use Rattle.pg_scene.proofs.Common.{All, All-append, All-nil, length-append, edge_count, marks_at}
+use Rattle.std.specs.Prelude.{nat_lt}
+use Rattle.pg_scene.proofs.Common.{All, All-append, All-nil, edge_count, marks_at}
 use Rattle.pg_scene.proofs.Common.{SpanBody, Trees}
 use Rattle.pg_scene.proofs.Common.{Parts, SpanClaim, SpanGame}
 use Rattle.pg_span.specs.Fits.{AreSpanParts}
-use Rattle.pg_scene.specs.Items.{fault_items, member_items, point_items, seen_at}
-use Rattle.pg_scene.specs.Legends.{fault_lines, sets_lines}
+use Rattle.pg_scene.specs.Items.{fault_items, member_items, point_items}
+use Rattle.pg_captions.specs.Look.{seen_at}
 use Rattle.pg_scene.specs.Limits.{IsBoard, IsItemOn, IsScene, points_on, vertices_on}
+use Rattle.pg_captions.proofs.Short.{span_claim-few, span_game-few}
 use Rattle.pg_scene.specs.Scenes.{IsDrawnGraph}
 use Rattle.pg_scene.specs.SpanScenes.{IsSceneOfSpan, IsSceneOfSpanGame, first_items, part_item}
-use Rattle.pg_scene.specs.SpanScenes.{first_lines, span_by, span_claim_lines, span_game_by}
-use Rattle.pg_scene.specs.SpanScenes.{span_items, span_lines, span_position_lines}
+use Rattle.pg_captions.specs.SpanLegends.{span_by, span_game_by}
+use Rattle.pg_scene.specs.SpanScenes.{span_items}
 use Rattle.pg_scene.specs.declared.board.Board.{Board}
 use Rattle.pg_scene.specs.declared.item.Item.TheVariants.{Step, Part}
 use Rattle.pg_scene.specs.declared.item.Set.TheVariants.{First, Second}
-use Rattle.pg_scene.specs.declared.look.Legend.{Legend}
-use Rattle.pg_scene.specs.declared.look.Legend.TheVariants.{Absent, OfBody, Whole}
-use Rattle.pg_scene.specs.declared.look.Look.{Look}
+use Rattle.pg_captions.specs.declared.look.Look.{Look}
 use Rattle.pg_scene.specs.declared.scene.Scene.{Scene}
-use Rattle.pg_scene.proofs.Within.{below-of, fault-few, on-fault, on-members, on-numbered}
+use Rattle.pg_scene.proofs.Within.{below-of, on-fault, on-members, on-numbered}
 use Rattle.pg_scene.proofs.Within.{on-points, on-seen}
 
 record Fitting (g : SpanGame) (board : Board) : Type 0 where
@@ -69,37 +68,6 @@ on-body board g (Parts parts) le few = on-numbered (IsItemOn board) (part_item g
     (λ u part. on-seen (IsItemOn board) (nat_lt u g.graph.vertices) (Part u part)
     (λ h. let lt = below-of u g.graph.vertices h in omega (arith, lt, few))) 0 parts
 
-first-few : (first : Option ℕ) → length (first_lines first) ≤ 1
-first-few (Some v) = omega arith
-first-few None = omega arith
-
-span-few : (body : SpanBody) → length (span_lines body) ≤ 5
-span-few (Trees first a1 a2) =
-    let few = first-few first in
-    let last = sets_lines false (codes "each set joins all vertices") in
-    omega (arith, few, length-append (first_lines first) last)
-span-few (Parts parts) = omega arith
-
-game-few : (legend : Legend) (look : Look) (g : SpanGame)
-    → length (span_game_by legend look g) ≤ 3
-game-few Absent look g = omega arith
-game-few OfBody look g = omega arith
-game-few Whole look g = omega arith
-
-claim-few : (legend : Legend) (look : Look) (g : SpanGame) (claim : SpanClaim) (fault : Option ℕ)
-    → length (span_by legend look g claim fault) ≤ 10
-claim-few Absent look g claim fault = omega arith
-claim-few OfBody look g claim fault =
-    let few = span-few claim.body in
-    omega (arith, few)
-claim-few Whole look g claim fault =
-    let few = span-few claim.body in
-    let faulty = fault-few fault in
-    let all = length-append (span_claim_lines look g claim) (fault_lines fault) in
-    let inner =
-    length-append (span_position_lines look g (marks_at g claim.turn)) (span_lines claim.body) in
-    omega (arith, few, faulty, all, inner)
-
 pub IsScene-span_game : (look : Look) (g : SpanGame) (scene : Scene)
     → IsSceneOfSpanGame look g scene
     → IsScene scene
@@ -113,7 +81,7 @@ IsScene-span_game look g scene is =
       few_lines =
           let same : length scene.legend ≡ length (span_game_by look.legend look g) =
           ap length is.legend in
-          omega (arith, same, game-few look.legend look g);
+          omega (arith, same, span_game-few look.legend look g);
     }
 
 pub IsScene-span : (look : Look) (g : SpanGame) (claim : SpanClaim) (fault : Option ℕ)
@@ -136,5 +104,5 @@ IsScene-span look g claim fault scene is =
       few_lines =
           let same : length scene.legend ≡ length (span_by look.legend look g claim fault) =
           ap length is.legend in
-          omega (arith, same, claim-few look.legend look g claim fault);
+          omega (arith, same, span_claim-few look.legend look g claim fault);
     }

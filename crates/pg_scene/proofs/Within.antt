@@ -2,10 +2,9 @@
 use Rattle.std.proofs.Common.{◌≡◌, ℕ, zero, suc, ◌+◌, ◌*◌, ◌<◌, ◌≤◌, Bool, true, false, ◌&&◌, List}
 use Rattle.std.proofs.Common.{[], ◌∷◌, ◌++◌, length, take, get_or, Option, Some, None, refl, sym}
 use Rattle.std.proofs.Common.{ap, ◌∙◌, inl, inr, subst, true≢false, arith}
-use Rattle.std.specs.Prelude.{codes, nat_lt, ◌==◌}
+use Rattle.std.specs.Prelude.{nat_lt, ◌==◌}
 use Rattle.pg_scene.proofs.Common.{FinSet, decimal, All, AllByRecursion, flat_map, range_with_len}
 use Rattle.pg_scene.proofs.Common.{nat_cmp, and_parts, cases_Bool, eqb-true, nat_tests}
-use Rattle.pg_scene.proofs.Common.{length-append}
 use Rattle.pg_scene.proofs.Common.{flat_map-cons, All-append, All-map, All-nil, Contains-get_or}
 use Rattle.pg_scene.proofs.Common.{points_below, Kind, Pair, Side, position_of, Claim, Node, Body}
 use Rattle.pg_scene.proofs.Common.{Reply, field_points, AreLinesOf, FieldFits, IsFit, IsLineOf}
@@ -18,26 +17,24 @@ use Rattle.pg_base.proofs.MemberLemmas.{points_below-small}
 use Rattle.pg_cert.specs.declared.node.Body.TheVariants as bodies
 use Rattle.pg_game.specs.declared.field.Field.TheVariants.{Graph as OnGraph}
 use Rattle.pg_game.proofs.Greatest.{member-within}
-use Rattle.pg_scene.specs.Items.{are_drawn, body_items, fault_items, line_item, line_items, mark_of}
+use Rattle.pg_captions.specs.Look.{are_drawn}
+use Rattle.pg_scene.specs.Items.{body_items, fault_items, line_item, line_items, mark_of}
 use Rattle.pg_scene.specs.Items.{member_items, numbered, pair_item, point_items, reply_item}
-use Rattle.pg_scene.specs.Items.{seen_at, seen_if, set_items, step_item, units, weight_items}
+use Rattle.pg_captions.specs.Look.{seen_at}
+use Rattle.pg_scene.specs.Items.{seen_if, set_items, step_item, units, weight_items}
 use Rattle.pg_scene.specs.Limits.{IsBoard, IsItemOn, IsScene, points_on, terminals_on}
-use Rattle.pg_scene.specs.Recorded.{IsSceneOfMoves, move_items, moves_by, order_if}
-use Rattle.pg_scene.specs.Recorded.{order_lines}
+use Rattle.pg_scene.specs.Recorded.{IsSceneOfMoves, move_items}
+use Rattle.pg_captions.specs.MoveLegends.{moves_by}
+use Rattle.pg_captions.proofs.Short.{game-few, moves-few, node-few}
 use Rattle.pg_scene.specs.Scenes.{IsBoardOf, IsSceneOf, IsSceneOfGame, laid_board}
 use Rattle.pg_scene.specs.Scenes.{line_board}
-use Rattle.pg_scene.specs.Legends.{bias_line, board_lines, body_lines, fault_lines, field_line}
-use Rattle.pg_scene.specs.Legends.{game_by}
-use Rattle.pg_scene.specs.Legends.{game_legend, marks_line, node_by, node_legend, node_lines}
-use Rattle.pg_scene.specs.Legends.{position_lines, said_if, sets_lines, size_line}
+use Rattle.pg_captions.specs.Legends.{game_legend, node_legend}
 use Rattle.pg_scene.specs.declared.board.Board.{Board}
 use Rattle.pg_scene.specs.declared.item.Item.{Item}
 use Rattle.pg_scene.specs.declared.item.Item.TheVariants as items
 use Rattle.pg_scene.specs.declared.item.Set.{Set}
 use Rattle.pg_scene.specs.declared.item.Set.TheVariants.{First, Second}
-use Rattle.pg_scene.specs.declared.look.Legend.{Legend}
-use Rattle.pg_scene.specs.declared.look.Legend.TheVariants.{Absent, OfBody, Whole}
-use Rattle.pg_scene.specs.declared.look.Look.{Look}
+use Rattle.pg_captions.specs.declared.look.Look.{Look}
 use Rattle.pg_scene.specs.declared.scene.Scene.{Scene}
 
 -- ---- lists of items
@@ -279,86 +276,6 @@ fitting-game g layout board is =
     fitting g.kind g.bias layout g.field board fits.within is
 
 -- ---- scenes
-
-said-few : (b : Bool) (line : List ℕ) → length (said_if b line) ≤ 1
-said-few true line = omega arith
-said-few false line = omega arith
-
-board-few : (look : Look) (g : Game) → length (board_lines look g) ≤ 4
-board-few look g =
-    let bias = bias_line g.kind g.bias in
-    let last = marks_line g.kind ∷ size_line look.numbers g.field
-    ∷ field_line look.lines g.field ∷ [] in
-    let few = said-few (nat_lt 1 g.bias) bias in
-    omega (arith, few, length-append (said_if (nat_lt 1 g.bias) bias) last)
-
-position-few : (look : Look) (g : Game) (p : Position) → length (position_lines look g p) ≤ 5
-position-few look g p =
-    let few = board-few look g in
-    omega (arith, few)
-
-order_if-few : (b : Bool) → length (order_if b) ≤ 2
-order_if-few true = omega arith
-order_if-few false = omega arith
-
-order-few : (moves : List ℕ) → length (order_lines moves) ≤ 2
-order-few moves = order_if-few (nat_lt 0 (length moves))
-
-moves-few : (legend : Legend) (look : Look) (g : Game) (p : Position) (over : Bool)
-    (moves : List ℕ)
-    → length (moves_by legend look g p over moves) ≤ 7
-moves-few Absent look g p over moves = omega arith
-moves-few OfBody look g p over moves =
-    let few = order-few moves in
-    omega (arith, few)
-moves-few Whole look g p over moves =
-    let board = board-few look g in
-    let order = order-few moves in
-    omega (arith, board, order, length-append (board_lines look g) (order_lines moves))
-
-game-few : (legend : Legend) (look : Look) (g : Game) (p : Position)
-    → length (game_by legend look g p) ≤ 5
-game-few Absent look g p = omega arith
-game-few OfBody look g p = omega arith
-game-few Whole look g p = position-few look g p
-
-sets-few : (with_e : Bool) (does : List ℕ) → length (sets_lines with_e does) ≤ 4
-sets-few with_e does =
-    let few = said-few with_e (codes "e: an extra edge, in the first set") in
-    omega (arith, few)
-
-body-few : (g : Game) (p : Position) (side : Side) (body : Body)
-    → length (body_lines g p side body) ≤ 4
-body-few g p side bodies.Over = omega arith
-body-few g p side (bodies.Move v child) = omega arith
-body-few g p side (bodies.All replies) = omega arith
-body-few g p side (bodies.Pairs pairs) = omega arith
-body-few g p side bodies.Potential = omega arith
-body-few g p side (bodies.Trees with_e first second) =
-    sets-few with_e (codes "each set joins the terminals")
-body-few g p side (bodies.Cuts with_e first second) =
-    sets-few with_e (codes "each set separates the terminals")
-body-few g p side (bodies.Threat points) = omega arith
-body-few g p side (bodies.Weaker child) = omega arith
-
-pub fault-few : (fault : Option ℕ) → length (fault_lines fault) ≤ 1
-fault-few (Some why) = omega arith
-fault-few None = omega arith
-
-node-few : (legend : Legend) (look : Look) (g : Game) (claim : Claim) (p : Position) (body : Body)
-    (fault : Option ℕ)
-    → length (node_by legend look g claim p body fault) ≤ 11
-node-few Absent look g claim p body fault = omega arith
-node-few OfBody look g claim p body fault =
-    let few = body-few g p claim.side body in
-    omega (arith, few)
-node-few Whole look g claim p body fault =
-    let position = position-few look g p in
-    let few = body-few g p claim.side body in
-    let faulty = fault-few fault in
-    let all = length-append (node_lines look g claim p body) (fault_lines fault) in
-    let inner = length-append (position_lines look g p) (body_lines g p claim.side body) in
-    omega (arith, position, few, faulty, all, inner)
 
 pub IsScene-game : (look : Look) (g : Game) (scene : Scene)
     → IsSceneOfGame look g scene

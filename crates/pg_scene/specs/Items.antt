@@ -1,21 +1,21 @@
 -- What is to be seen on a board, of a position, of lines, and of the bodies of nodes.
-use Rattle.std.specs.Prelude.{ℕ, zero, suc, ◌+◌, ◌-◌, ◌^◌, max, nat_eq, nat_lt, nat_le, Bool, true}
+use Rattle.std.specs.Prelude.{ℕ, zero, suc, ◌+◌, ◌-◌, ◌^◌, nat_eq, nat_lt, nat_le, Bool, true}
 use Rattle.std.specs.Prelude.{false, ◌&&◌, List, [], ◌∷◌, ◌++◌, length, map, take, get_or, Option}
 use Rattle.std.specs.Prelude.{Some, None, if◌then◌else◌}
 use Rattle.pg_scene.specs.Prelude.{FinSet, contains, decimal, count_by, flat_map, list_any}
-use Rattle.pg_scene.specs.Prelude.{range_with_len, sum_by, nat_cmp, points_below, Kind}
-use Rattle.pg_scene.specs.Prelude.{AvoiderEnforcer, Pair, Side}
-use Rattle.pg_scene.specs.Prelude.{Body, Reply, is_graph, free_points, is_touched, lines_of}
-use Rattle.pg_scene.specs.Prelude.{point_count, is_free, points_of, greatest_length, is_on}
+use Rattle.pg_scene.specs.Prelude.{range_with_len, sum_by, nat_cmp, points_below}
+use Rattle.pg_scene.specs.Prelude.{Pair, Side}
+use Rattle.pg_scene.specs.Prelude.{Body, Reply, is_graph, free_points, lines_of}
+use Rattle.pg_scene.specs.Prelude.{point_count, greatest_length, is_on}
 use Rattle.pg_scene.specs.Prelude.{line_weight, Game, Position}
-use Rattle.std.specs.FinSet.{empty}
 use Rattle.pg_base.specs.declared.side.Side.TheVariants.{X, Y}
 use Rattle.pg_cert.specs.declared.node.Body.TheVariants as bodies
+use Rattle.pg_captions.specs.Lightest.{base_of, most_free, own_of}
+use Rattle.pg_captions.specs.Look.{are_drawn}
 use Rattle.pg_scene.specs.declared.item.Item.{Item}
 use Rattle.pg_scene.specs.declared.item.Item.TheVariants as items
 use Rattle.pg_scene.specs.declared.item.Set.{Set}
 use Rattle.pg_scene.specs.declared.item.Set.TheVariants.{First, Second}
-use Rattle.pg_scene.specs.declared.lines.TheConstants.{MAX_DRAWN_LINES}
 
 -- the item, where the test holds
 abbrev pub seen_if : Bool → Item → List Item
@@ -36,10 +36,6 @@ mark_of p v = if contains p.x v then Some X else if contains p.y v then Some Y e
 -- each of so many points with its mark; marks of other points aren't drawn
 abbrev pub point_items : ℕ → Position → List Item
 point_items n p = map (λ v. items.Point v (mark_of p v)) (range_with_len 0 n)
-
--- whether there are few enough lines to draw them, if they are to be seen
-abbrev pub are_drawn : Bool → List (List ℕ) → Bool
-are_drawn seen lines = seen && nat_le (length lines) MAX_DRAWN_LINES
 
 -- whether two lines may lie over one another: they have two points in common
 abbrev pub overlap : List ℕ → List ℕ → Bool
@@ -62,31 +58,7 @@ abbrev pub line_items : Bool → List (List ℕ) → List Item
 line_items seen lines =
     if are_drawn seen lines then map (line_item lines) (range_with_len 0 (length lines)) else []
 
--- the position without marks, in place of another, if the boards are to be blank
-abbrev pub seen_at : Option ℕ → Position → Position
-seen_at None p = p
-seen_at (Some count) p = record { x = empty; y = empty; turn = p.turn; left = p.left }
-
 -- ---- a potential
-
--- what a line's weight is multiplied by with each free point that it loses
-abbrev pub base_of : Kind → ℕ → ℕ
-base_of AvoiderEnforcer bias = 2
-base_of _ bias = 1 + bias
-
--- the points that take a line's weight: Enforcer's, or the claimer's
-abbrev pub own_of : Kind → Position → Side → FinSet nat_cmp
-own_of AvoiderEnforcer p side = p.y
-own_of _ p side = points_of p side
-
--- how many free points a line has that none of these points takes
-abbrev pub free_on : FinSet nat_cmp → Position → List ℕ → ℕ
-free_on own p line = if is_touched own line then 0 else count_by (is_free p) line
-
--- the greatest number of them, 0 where there is no such line
-abbrev pub most_free : FinSet nat_cmp → Position → List (List ℕ) → ℕ
-most_free own p [] = 0
-most_free own p (line ∷ lines) = max (free_on own p line) (most_free own p lines)
 
 -- the weight of the lightest of these lines
 unfoldable pub unit_weight : ℕ → Game → FinSet nat_cmp → Position → ℕ

@@ -1,9 +1,6 @@
 pub mod Prelude
 pub mod Limits
 pub mod Items
-pub mod Words
-pub mod Legends
-pub mod Look
 pub mod Scenes
 pub mod Read
 pub mod SpanScenes

@@ -12,7 +12,7 @@ use Rattle.pg_scene.specs.declared.item.Item.{Item}
 use Rattle.pg_scene.specs.declared.item.Item.TheVariants.{Point, Line, Pair, Weight, Member, Extra}
 use Rattle.pg_scene.specs.declared.item.Item.TheVariants.{Step, Move, Reply, Part, Fault}
 use Rattle.pg_scene.specs.declared.scene.Scene.{Scene}
-use Rattle.pg_scene.specs.declared.lines.TheConstants.{MAX_LEGEND_LINES}
+use Rattle.pg_captions.specs.declared.lines.TheConstants.{MAX_LEGEND_LINES}
 
 -- a graph of as many vertices as the Bridg-It board of so many rows, with its terminals
 abbrev pub IsSized : Multigraph → ℕ → Type 0

@@ -1,11 +1,7 @@
 -- What the definitions of this crate name of std and of the crates below.
 unfoldable pub use Rattle.pg_base.specs.Points.{points_below}
-pub use Rattle.pg_base.specs.Side.{side_word}
-pub use Rattle.pg_base.specs.Texts.{count_text}
 pub use Rattle.pg_base.specs.declared.kind.Kind.{Kind}
-pub use Rattle.pg_base.specs.declared.kind.Kind.TheVariants.{AvoiderEnforcer, MakerBreaker}
-pub use Rattle.pg_base.specs.declared.kind.Kind.TheVariants.{MakerMaker, Switching}
-pub use Rattle.pg_base.specs.declared.limits.TheConstants.{MAX_EDGES, MAX_MEMBERS}
+pub use Rattle.pg_base.specs.declared.limits.TheConstants.{MAX_EDGES}
 pub use Rattle.pg_base.specs.declared.pair.Pair.{Pair}
 pub use Rattle.pg_base.specs.declared.side.Side.{Side}
 pub use Rattle.pg_cert.specs.Node.{position_of}
@@ -17,11 +13,11 @@ pub use Rattle.pg_game.specs.Field.{field_points}
 pub use Rattle.pg_game.specs.Fit.{AreLinesOf, FieldFits, IsFit, IsLineOf, is_graph, longest}
 pub use Rattle.pg_game.specs.Game.{is_touched, lines_of, point_count, start}
 unfoldable pub use Rattle.pg_game.specs.Game.{free_points}
-pub use Rattle.pg_game.specs.Position.{is_free, points_of}
-pub use Rattle.pg_game.specs.Potential.{IsBaseOf, greatest_length, is_on, line_weight}
-unfoldable pub use Rattle.pg_game.specs.Potential.{full_weight, point_weight}
+pub use Rattle.pg_game.specs.Position.{is_free}
+pub use Rattle.pg_game.specs.Potential.{greatest_length, is_on, line_weight}
+unfoldable pub use Rattle.pg_game.specs.Potential.{point_weight}
 pub use Rattle.pg_game.specs.declared.field.Field.{Field}
-pub use Rattle.pg_game.specs.declared.field.Field.TheVariants.{Graph, Lines}
+pub use Rattle.pg_game.specs.declared.field.Field.TheVariants.{Lines}
 pub use Rattle.pg_game.specs.declared.game.Game.{Game}
 pub use Rattle.pg_game.specs.declared.position.Position.{Position}
 pub use Rattle.pg_graph.specs.Graph.{edge_count}

@@ -7,13 +7,14 @@ use Rattle.pg_cert.specs.declared.cert.Cert.{Cert}
 use Rattle.pg_game.specs.declared.field.Field.TheVariants.{Graph as OnGraph}
 use Rattle.pg_base.specs.declared.grid.Grid.{Grid as Cells}
 use Rattle.pg_layout.specs.declared.chart.Chart.{Chart}
-use Rattle.pg_scene.specs.Items.{body_items, fault_items, line_items, point_items, seen_at}
+use Rattle.pg_scene.specs.Items.{body_items, fault_items, line_items, point_items}
+use Rattle.pg_captions.specs.Look.{seen_at}
 use Rattle.pg_scene.specs.Limits.{IsBridge}
-use Rattle.pg_scene.specs.Legends.{game_legend, node_legend}
-use Rattle.pg_scene.specs.Words.{kind_title, node_title}
+use Rattle.pg_captions.specs.Legends.{game_legend, node_legend}
+use Rattle.pg_captions.specs.Words.{kind_title, node_title}
 use Rattle.pg_scene.specs.declared.board.Board.{Board}
 use Rattle.pg_scene.specs.declared.board.Board.TheVariants.{Grid, Ring, Laid, Graph}
-use Rattle.pg_scene.specs.declared.look.Look.{Look}
+use Rattle.pg_captions.specs.declared.look.Look.{Look}
 use Rattle.pg_scene.specs.declared.scene.Scene.{Scene}
 
 -- ---- boards

@@ -1,8 +1,8 @@
 //! What is to be seen on a board.
 ghost use Rattle.std.specs.Prelude.{◌≡◌};
 
-use crate::text::Text;
 use pg_base::{Points, Side};
+use pg_captions::Text;
 use std::marker::Model;
 
 /// One of two sets of edges.

@@ -4,12 +4,13 @@ ghost use Rattle.pg_scene.specs.Prelude.{FinSet, All, flat_map, range_with_len, 
 ghost use Rattle.pg_scene.specs.Prelude.{points_below, Pair, position_of, Claim, Node, Reply};
 ghost use Rattle.pg_scene.specs.Prelude.{point_count, start, Game, Position, SpanClaim, SpanGame};
 ghost use Rattle.pg_cert.specs.declared.node.Body.TheVariants as bodies;
-ghost use Rattle.pg_scene.specs.Items.{mark_of, seen_at};
+ghost use Rattle.pg_scene.specs.Items.{mark_of};
+ghost use Rattle.pg_captions.specs.Look.{seen_at};
 ghost use Rattle.pg_scene.specs.Limits.{IsScene};
 ghost use Rattle.pg_scene.specs.Read.{first_in, pair_in, point_in, reply_in, second_in};
 ghost use Rattle.pg_scene.specs.Recorded.{IsSceneOfMoves};
 ghost use Rattle.pg_scene.specs.Scenes.{IsSceneOf, IsSceneOfGame};
-ghost use Rattle.pg_scene.specs.declared.look.Look.{Look};
+ghost use Rattle.pg_captions.specs.declared.look.Look.{Look};
 ghost use Rattle.pg_scene.specs.declared.scene.Scene.{Scene};
 ghost use Rattle.pg_scene.specs.SpanScenes.{IsSceneOfSpan, IsSceneOfSpanGame};
 

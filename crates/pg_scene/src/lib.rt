@@ -4,25 +4,18 @@
 
 mod board;
 mod bodies;
-mod body_words;
 mod bridge;
 mod item;
 mod laws;
-mod legend;
 mod lines;
-mod look;
-mod names;
 mod numbers;
 mod points;
 mod recorded;
 mod scene;
 mod shown;
 mod span_bodies;
-mod span_legend;
 mod span_shown;
-mod text;
 mod weights;
-mod words;
 
 pub use board::Board;
 pub use bodies::put_fault;
@@ -32,13 +25,8 @@ pub use laws::{
     edges_are_drawn_once, pairs_are_drawn_once, points_are_drawn_once, replies_are_drawn_once,
     scenes_can_be_laid_out, span_scenes_can_be_laid_out,
 };
-pub use lines::{MAX_DRAWN_LINES, MAX_LEGEND_LINES};
-pub use look::{Legend, Look};
-pub use names::side_name;
 pub use points::{put_members, put_points};
 pub use recorded::scene_of_moves;
 pub use scene::Scene;
 pub use shown::{scene_of_game, scene_of_node};
 pub use span_shown::{scene_of_span_claim, scene_of_span_game};
-pub use text::{Text, Texts};
-pub use words::text_of;

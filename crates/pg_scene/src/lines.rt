@@ -1,24 +1,13 @@
 //! Lines.
 ghost use Rattle.std.specs.Prelude.{◌≡◌, ◌<◌, ◌++◌, ◌∷◌, [], IfOk, OnOk, get_or, length, nat_eq};
 ghost use Rattle.pg_scene.specs.Prelude.{list_any};
-ghost use Rattle.pg_scene.specs.Items.{are_drawn, lane_after, line_item, line_items, overlap};
+ghost use Rattle.pg_captions.specs.Look.{are_drawn};
+ghost use Rattle.pg_scene.specs.Items.{lane_after, line_item, line_items, overlap};
 
 use crate::item::Item;
 use pg_base::{Line, Memory, Points};
+use pg_captions::are_drawn;
 use std::alloc::Global;
-
-/// The most lines of a game whose lines are drawn.
-pub const MAX_DRAWN_LINES: usize = 30;
-
-/// The most lines of a legend, so that a picture stays within numbers that it can say.
-pub const MAX_LEGEND_LINES: usize = 1000;
-
-/// Whether there are few enough lines to draw them, if they are to be seen.
-pub(crate) fn are_drawn(seen: bool, lines: &[Line]) -> bool
-    ensures { result ≡ are_drawn seen lines.now }
-{
-    seen && lines.len() <= MAX_DRAWN_LINES
-}
 
 /// Whether a line has the point.
 fn has(line: &Line, v: u16) -> bool

@@ -1,6 +1,6 @@
 //! Points with their marks.
 ghost use Rattle.std.specs.Prelude.{◌≡◌, ◌<◌, ◌≤◌, ◌++◌, OnOk};
-ghost use Rattle.pg_scene.specs.Items.{mark_of, member_items, point_items, seen_at};
+ghost use Rattle.pg_scene.specs.Items.{mark_of, member_items, point_items};
 
 use crate::item::{Item, Set};
 use pg_base::{MAX_EDGES, MAX_MEMBERS, Memory, PointSet, Side};
@@ -17,21 +17,6 @@ fn mark_of(p: &Position, v: u16) -> Option<Side>
         Some(Side::Y)
     } else {
         None
-    }
-}
-
-/// The position without marks, in place of another, if the boards are to be blank.
-pub(crate) fn seen_at(blank: Option<u32>, p: Position) -> Position
-    ensures { result ≡ seen_at blank p }
-{
-    match blank {
-        None => p,
-        Some(_) => Position {
-            x: PointSet::empty(),
-            y: PointSet::empty(),
-            turn: p.turn,
-            left: p.left,
-        },
     }
 }
 

@@ -1,7 +1,7 @@
 //! What is to be seen, whole.
 use crate::board::Board;
 use crate::item::Items;
-use crate::text::{Text, Texts};
+use pg_captions::{Text, Texts};
 
 /// What is to be seen of a game or of a node.
 #[derive(Debug, Drop)]

@@ -7,13 +7,11 @@ ghost use Rattle.pg_scene.specs.Scenes.{IsSceneOf, IsSceneOfGame, IsSceneOfNode,
 use crate::bodies::{put_body, put_fault};
 use crate::bridge::board_of;
 use crate::item::{Item, Items};
-use crate::legend::{game_legend, node_legend};
 use crate::lines::put_lines;
-use crate::look::Look;
-use crate::points::{put_points, seen_at};
+use crate::points::put_points;
 use crate::scene::Scene;
-use crate::words::{game_title, node_title};
 use pg_base::{Memory, Side};
+use pg_captions::{Look, game_legend, game_title, node_legend, node_title, seen_at};
 use pg_cert::{Cert, Claim, Node};
 use pg_game::{Game, Position};
 use std::alloc::Global;

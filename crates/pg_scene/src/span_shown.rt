@@ -8,28 +8,16 @@ ghost use Rattle.pg_scene.specs.SpanScenes.{span_items};
 use crate::bodies::put_fault;
 use crate::bridge::joining_board;
 use crate::item::{Item, Items};
-use crate::look::Look;
-use crate::points::{put_points, seen_at};
+use crate::points::put_points;
 use crate::scene::Scene;
 use crate::span_bodies::put_span_body;
-use crate::span_legend::{claim_legend, game_legend, span_title};
-use crate::words::text_of;
-use pg_base::{MAX_EDGES, Memory, Side};
+use pg_base::{MAX_EDGES, Memory};
+use pg_captions::{
+    Look, marks_at, seen_at, span_claim_legend, span_game_legend, span_title, text_of,
+};
 use pg_game::Position;
 use pg_span::{SpanBody, SpanCert, SpanClaim, SpanGame};
 use std::alloc::Global;
-
-/// The game's marks with a side to move.
-fn marks_at(g: &SpanGame, turn: Side) -> Position
-    ensures { result ≡ marks_at g.now turn }
-{
-    Position {
-        x: g.x,
-        y: g.y,
-        turn,
-        left: 1,
-    }
-}
 
 /// How many edges the game has.
 fn edge_count(g: &SpanGame) -> u16
@@ -79,7 +67,7 @@ pub fn scene_of_span_game(alloc: Global, game: &SpanGame, look: Look) -> Result<
     let title = text_of(alloc, "Connectivity game")?;
     let board = joining_board(alloc, &game.graph)?;
     let items = Items::from_vec(edge_items(alloc, game, &p)?);
-    let legend = game_legend(alloc, look, game, &p)?;
+    let legend = span_game_legend(alloc, look, game)?;
     Ok(Scene {
         title,
         board,
@@ -102,7 +90,7 @@ fn claim_scene(
     let title = span_title(alloc, claim.side, fault)?;
     let board = joining_board(alloc, &g.graph)?;
     let items = claim_items(alloc, g, &p, &claim.body, fault)?;
-    let legend = claim_legend(alloc, look, g, claim, &p, fault)?;
+    let legend = span_claim_legend(alloc, look, g, claim, fault)?;
     Ok(Scene {
         title,
         board,

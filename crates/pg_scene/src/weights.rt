@@ -1,79 +1,16 @@
 //! The weights of free points.
 ghost use Rattle.std.specs.Prelude.{◌≡◌, ◌<◌, ◌≤◌, ◌++◌, ◌/◌, OnOk, length, get_or, map, ℕ};
-ghost use Rattle.pg_scene.specs.Prelude.{decimal, All, MAX_MEMBERS, free_points, lines_of};
+ghost use Rattle.pg_scene.specs.Prelude.{decimal, free_points};
 ghost use Rattle.pg_scene.specs.Prelude.{point_count, is_free, greatest_length, point_weight};
-ghost use Rattle.pg_scene.specs.Items.{base_of, free_on, most_free, own_of, unit_weight, units};
+ghost use Rattle.pg_captions.specs.Lightest.{base_of, most_free, own_of};
+ghost use Rattle.pg_scene.specs.Items.{unit_weight, units};
 ghost use Rattle.pg_scene.specs.Items.{weight_items};
 
 use crate::item::Item;
-use crate::text::Text;
-use crate::words::decimal_text;
-use pg_base::{Kind, Line, Memory, PointSet, Side};
+use pg_base::{Memory, Side};
+use pg_captions::{base_of, decimal_text, most_free, own_of};
 use pg_game::{Field, Game, MAX_POINTS, Position, Weights, greatest_length, weigh};
 use std::alloc::Global;
-
-/// What a line's weight is multiplied by with each free point that it loses.
-pub(crate) fn base_of(g: &Game) -> u8
-    ensures { result ≡ base_of g.now.kind g.now.bias }
-{
-    match g.kind {
-        Kind::AvoiderEnforcer => 2,
-        Kind::MakerBreaker | Kind::MakerMaker | Kind::Switching => 1 + g.bias,
-    }
-}
-
-/// The points that take a line's weight.
-fn own_of<'a>(g: &Game, p: &'a Position, side: Side) -> &'a PointSet
-    ensures { result.now ≡ own_of g.now.kind p.now side }
-{
-    match g.kind {
-        Kind::AvoiderEnforcer => &p.y,
-        Kind::MakerBreaker | Kind::MakerMaker | Kind::Switching => p.points_of(side),
-    }
-}
-
-/// How many free points a line has that none of the points takes.
-fn free_on(own: &PointSet, p: &Position, line: &Line) -> usize
-    requires { All (λ v. v < MAX_MEMBERS) line.now }
-    ensures free { result ≡ free_on own.now p.now line.now }
-    ensures few { result ≤ length line.now }
-{
-    let mut free = 0;
-    for v in line.as_slice() {
-        if own.has(*v) {
-            return 0;
-        }
-        if p.is_free(*v) {
-            free += 1;
-        }
-    }
-    free
-}
-
-/// The greatest number of free points of a line that none of the points takes, and 0 where there is
-/// none.
-fn most_free_of(own: &PointSet, p: &Position, lines: &[Line]) -> usize
-    requires { All (All (λ v. v < MAX_MEMBERS)) lines.now }
-    ensures most { result ≡ most_free own.now p.now lines.now }
-    ensures few { result ≤ greatest_length lines.now }
-{
-    let mut most = 0;
-    for line in lines {
-        let free = free_on(own, p, line);
-        if free > most {
-            most = free;
-        }
-    }
-    most
-}
-
-/// The number of free points of a line that weighs one unit for the claimer.
-pub(crate) fn most_free(g: &Game, p: &Position, side: Side) -> usize
-    ensures most { result ≡ most_free (own_of g.now.kind p.now side) p.now (lines_of g.now) }
-    ensures few { result ≤ greatest_length (lines_of g.now) }
-{
-    most_free_of(own_of(g, p, side), p, g.lines())
-}
 
 /// The weight that counts as one for the claimer.
 fn unit_weight(g: &Game, p: &Position, side: Side) -> u128

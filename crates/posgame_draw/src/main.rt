@@ -7,13 +7,13 @@ mod usage;
 
 use clap::Error;
 use pg_binding::{BookOrder, bind};
+use pg_captions::Look;
 use pg_drawing::draw;
 use pg_host::{HostConsole, HostFiles, guard_streams};
 use pg_laying::{open_layout, tell_no_layout};
 use pg_layout::Chart;
 use pg_messages::{DONE, NO_MEMORY, NO_WORDS};
 use pg_replaying::{RecordOrder, draw_record};
-use pg_scene::Look;
 use std::alloc::{AllocError, Global};
 use std::env;
 use std::io::ErrorKind;

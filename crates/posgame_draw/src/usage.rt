@@ -1,10 +1,10 @@
 //! The command line of the program as `clap` reads it.
-use clap::builder::ValueParser;
 use clap::{Arg, ArgAction, ArgMatches, Command, Error};
+use clap::builder::ValueParser;
 use pg_binding::BookOrder;
+use pg_captions::{Legend, Look};
 use pg_draw::MAX_BOARDS;
 use pg_replaying::RecordOrder;
-use pg_scene::{Legend, Look};
 use std::alloc::{AllocError, Global};
 
 /// The version that `--version` prints.

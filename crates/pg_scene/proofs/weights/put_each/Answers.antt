@@ -2,9 +2,10 @@ use Rattle.std.proofs.Common.{◌∙◌, ◌≡◌, ◌/◌, ◌++◌, ap, ap₂
 use Rattle.pg_scene.proofs.Common.{decimal, Vec, filter, range_with_len, free_points, point_count}
 use Rattle.pg_scene.proofs.Common.{is_free}
 use Rattle.pg_scene.proofs.Growing.{failed, passed}
-use Rattle.pg_scene.proofs.Lightest.{base_some}
+use Rattle.pg_captions.proofs.Lightest.{base_some}
 use Rattle.pg_scene.proofs.Scaled.{units_by-weight}
-use Rattle.pg_scene.specs.Items.{base_of, own_of, units}
+use Rattle.pg_captions.specs.Lightest.{base_of, own_of}
+use Rattle.pg_scene.specs.Items.{units}
 use Rattle.pg_scene.specs.declared.item.Item.{Item}
 use Rattle.pg_scene.specs.declared.item.Item.TheVariants.{Weight}
 use Rattle.pg_scene.proofs.weights.put_each.Goals as goal

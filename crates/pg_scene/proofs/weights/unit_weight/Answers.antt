@@ -1,6 +1,6 @@
 use Rattle.std.proofs.Common.{◌∙◌, ◌≤◌, ◌^◌, ◌-◌, ap, ap₂, arith, subst, sym}
 use Rattle.pg_scene.proofs.Common.{one-le-pow, greatest_length, greatest_length-few}
-use Rattle.pg_scene.proofs.Lightest.{base_power, base_some}
+use Rattle.pg_captions.proofs.Lightest.{base_power, base_some}
 use Rattle.pg_scene.specs.Items.{unit_weight}
 use Rattle.pg_scene.proofs.weights.unit_weight.Goals as goal
 

@@ -1,4 +1,4 @@
-use Rattle.pg_scene.proofs.Lightest.{IsBaseOf-base}
+use Rattle.pg_captions.proofs.Lightest.{IsBaseOf-base}
 use Rattle.std.proofs.Common.{◌∙◌}
 use Rattle.pg_scene.proofs.weights.weights_for.Goals as goal
 

@@ -1,0 +1,3 @@
+mod Common
+pub mod Lightest
+pub mod Short

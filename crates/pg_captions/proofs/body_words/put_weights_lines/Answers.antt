@@ -1,0 +1,10 @@
+use Rattle.std.proofs.Common.{append_assoc}
+use Rattle.pg_captions.proofs.body_words.put_weights_lines.Goals as goal
+
+pub returns : goal.returns
+returns c = rw (
+  c.in_ok-put_heavier.ensures,
+  c.in_ok-put_lightest.ensures,
+  c.in_ok-put_line-2.ensures,
+  c.in_ok-put_line.ensures,
+) (simp append_assoc)

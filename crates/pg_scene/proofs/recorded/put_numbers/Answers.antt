@@ -1,8 +1,0 @@
-use Rattle.std.proofs.Common.{append_assoc}
-use Rattle.pg_scene.proofs.recorded.put_numbers.Goals as goal
-
-pub returns : goal.returns
-returns c = rw (
-  c.in_ok-put_line-2.ensures,
-  c.in_ok-put_line.ensures,
-) (simp append_assoc)
