@@ -41,7 +41,7 @@ pub enum Paint {
     Reply,
     /// What a fault was found in.
     Fault,
-    /// The number of a cell, in its corner.
+    /// The number of a cell, at its upper border.
     Corner,
     /// Another number: of a disc, an edge, a vertex or a step.
     Number,

@@ -1,4 +1,5 @@
 mod Common
 mod Apart
+mod Chords
 mod Layouts
 pub mod Circles

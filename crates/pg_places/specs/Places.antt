@@ -19,6 +19,11 @@ at across down = record { across = across; down = down }
 abbrev pub IsWithin : ℕ → Place → Type 0
 IsWithin limit place = (place.across < limit) × (place.down < limit)
 
+-- two places are so far apart, across or down
+abbrev pub AreApart : ℕ → Place → Place → Type 0
+AreApart far a b = ((a.across + far ≤ b.across) ⊎ (b.across + far ≤ a.across))
+    ⊎ ((a.down + far ≤ b.down) ⊎ (b.down + far ≤ a.down))
+
 -- the place so far up and to the left of another
 abbrev pub upper_left : Place → ℕ → ℕ → Place
 upper_left place left up = at (place.across - left) (place.down - up)
@@ -57,8 +62,7 @@ place_on_chart chart point = spot_or_corner (slice_get (spots_of chart) point)
 
 -- two places are a cell apart, across or down
 abbrev pub IsCellApart : Place → Place → Type 0
-IsCellApart a b = ((a.across + CELL ≤ b.across) ⊎ (b.across + CELL ≤ a.across))
-    ⊎ ((a.down + CELL ≤ b.down) ⊎ (b.down + CELL ≤ a.down))
+IsCellApart a b = AreApart CELL a b
 
 -- ---- circles
 

@@ -2,8 +2,9 @@
 ghost use Rattle.std.specs.Prelude.{◌≡◌, ◌+◌, ◌≤◌, length};
 ghost use Rattle.pg_places.specs.Prelude.{count_by, MAX_EDGES};
 ghost use Rattle.pg_places.specs.Places.{IsPlan, IsWithin};
-ghost use Rattle.pg_places.specs.Courses.{beside, bend_of, course_of, have_same_ends, middle_of};
-ghost use Rattle.pg_places.specs.Courses.{midway};
+ghost use Rattle.pg_places.specs.Courses.{IsNear, bend_of, beside, course_of, have_same_ends};
+ghost use Rattle.pg_places.specs.Courses.{is_near_first, middle_of, midway, on_bow, part_way};
+ghost use Rattle.pg_places.specs.Courses.{place_on, third};
 
 use crate::measures::{BEND, LOOP, MAX_END_REACH, MAX_MIDDLE_REACH};
 use crate::vertices::Plan;
@@ -18,6 +19,8 @@ pub enum Course {
         from: Place,
         /// Where it ends.
         to: Place,
+        /// Where its number and its rings stand.
+        place: Place,
     },
     /// Bent towards a place.
     Bent {
@@ -27,6 +30,8 @@ pub enum Course {
         bend: Place,
         /// Where it ends.
         to: Place,
+        /// Where its number and its rings stand.
+        place: Place,
     },
     /// From a vertex back to it, around a place beside it.
     Around {
@@ -45,13 +50,80 @@ fn midway(a: Place, b: Place) -> Place
     }
 }
 
+/// The place a third of the way from one place to another.
+fn third(a: Place, b: Place) -> Place
+    requires a { IsWithin MAX_MIDDLE_REACH a }
+    requires b { IsWithin MAX_MIDDLE_REACH b }
+    ensures place { result ≡ third a b }
+    ensures near { IsWithin MAX_MIDDLE_REACH result }
+{
+    Place {
+        across: (2 * a.across + b.across) / 3,
+        down: (2 * a.down + b.down) / 3,
+    }
+}
+
+/// Whether what stands on an edge between vertices on a circle is near the first of its ends.
+fn is_near_first(vertices: u32, edge: (u16, u16)) -> bool
+    ensures { result ≡ is_near_first vertices edge }
+{
+    if 2 * u32::from(edge.0.abs_diff(edge.1)) <= vertices {
+        edge.0 < edge.1
+    } else {
+        edge.1 < edge.0
+    }
+}
+
+/// The place part of the way from one place to another, in the direction of an edge: half of the
+/// way on a board of Bridg-It, else a third of it from the end that its number is near.
+fn part_way(plan: Plan, edge: (u16, u16), a: Place, b: Place) -> Place
+    requires a { IsWithin MAX_MIDDLE_REACH a }
+    requires b { IsWithin MAX_MIDDLE_REACH b }
+    ensures place { result ≡ part_way plan edge a b }
+    ensures near { IsWithin MAX_MIDDLE_REACH result }
+{
+    match plan.bridge {
+        Some(_) => midway(a, b),
+        None => {
+            if is_near_first(plan.vertices, edge) {
+                third(a, b)
+            } else {
+                third(b, a)
+            }
+        }
+    }
+}
+
+/// The place on a bow that is part of the way along it.
+fn on_bow(plan: Plan, edge: (u16, u16), from: Place, bend: Place, to: Place) -> Place
+    requires from { IsWithin MAX_MIDDLE_REACH from }
+    requires bend { IsWithin MAX_MIDDLE_REACH bend }
+    requires to { IsWithin MAX_MIDDLE_REACH to }
+    ensures place { result ≡ on_bow plan edge from bend to }
+    ensures near { IsWithin MAX_MIDDLE_REACH result }
+{
+    let first = part_way(plan, edge, from, bend);
+    let second = part_way(plan, edge, bend, to);
+    part_way(plan, edge, first, second)
+}
+
+/// Where the number and the rings of an edge stand.
+pub fn place_on(course: Course) -> Place
+    ensures { result ≡ place_on course }
+{
+    match course {
+        Course::Straight { place, .. } | Course::Bent { place, .. } => place,
+        Course::Around { centre } => centre,
+    }
+}
+
 /// The middle of an edge.
-pub fn middle_of(course: Course) -> Place
+pub(crate) fn middle_of(course: Course) -> Place
     ensures { result ≡ middle_of course }
 {
     match course {
-        Course::Straight { from, to } => midway(from, to),
-        Course::Bent { from, bend, to } => midway(midway(from, to), bend),
+        Course::Straight { from, to, .. } => midway(from, to),
+        Course::Bent { from, bend, to, .. } => midway(midway(from, to), bend),
         Course::Around { centre } => centre,
     }
 }
@@ -81,7 +153,7 @@ pub fn parallels(ends: &[(u16, u16)], edge: (u16, u16)) -> u32
 /// The place towards which an edge is bent: down from its middle where it leads rather across, else
 /// to the right.
 #[tactic(auto, unfolding(crate::specs::Courses::bend_of))]
-pub fn bend_of(from: Place, to: Place, steps: u32) -> Place
+fn bend_of(from: Place, to: Place, steps: u32) -> Place
     requires from { IsWithin MAX_END_REACH from }
     requires to { IsWithin MAX_END_REACH to }
     requires few { steps ≤ MAX_EDGES + 1 }
@@ -106,7 +178,7 @@ pub fn bend_of(from: Place, to: Place, steps: u32) -> Place
 #[tactic(auto, unfolding(crate::specs::Courses::beside))]
 fn beside(place: Place, steps: u32) -> Place
     requires near { IsWithin MAX_END_REACH place }
-    requires few { steps ≤ MAX_EDGES }
+    requires few { steps ≤ MAX_EDGES + 1 }
     ensures place { result ≡ beside place steps }
     ensures near { IsWithin MAX_MIDDLE_REACH result }
 {
@@ -116,13 +188,13 @@ fn beside(place: Place, steps: u32) -> Place
     }
 }
 
-/// How an edge runs, where so many before it have the same ends.
+/// Returns how an edge runs, where so many before it have the same ends.
 #[tactic(auto, unfolding(crate::specs::Courses::course_of))]
 pub fn course_of(plan: Plan, steps: u32, edge: (u16, u16)) -> Course
     requires plan { IsPlan plan }
-    requires few { steps ≤ MAX_EDGES }
+    requires few { steps ≤ MAX_EDGES + 1 }
     ensures course { result ≡ course_of plan steps edge }
-    ensures near { IsWithin MAX_MIDDLE_REACH (middle_of result) }
+    ensures near { IsNear result }
 {
     let from = plan.place_of_end(edge.0, edge.1);
     let to = plan.place_of_end(edge.1, edge.0);
@@ -130,9 +202,16 @@ pub fn course_of(plan: Plan, steps: u32, edge: (u16, u16)) -> Course
         let centre = beside(from, steps);
         Course::Around { centre }
     } else if steps == 0 {
-        Course::Straight { from, to }
+        let place = part_way(plan, edge, from, to);
+        Course::Straight { from, to, place }
     } else {
         let bend = bend_of(from, to, steps);
-        Course::Bent { from, bend, to }
+        let place = on_bow(plan, edge, from, bend, to);
+        Course::Bent {
+            from,
+            bend,
+            to,
+            place,
+        }
     }
 }

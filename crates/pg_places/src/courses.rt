@@ -2,15 +2,25 @@
 ghost use Rattle.std.specs.Prelude.{◌≡◌, ◌≤◌, length, slice_get, IfOk, []};
 ghost use Rattle.pg_places.specs.Prelude.{MAX_EDGES};
 ghost use Rattle.pg_places.specs.Places.{IsPlan, IsWithin};
-ghost use Rattle.pg_places.specs.Courses.{courses_behind, farthest, place_of_edge};
+ghost use Rattle.pg_places.specs.Courses.{beyond, courses_behind, farthest, place_of_edge};
 
-use crate::course::{Course, course_of, middle_of, parallels};
+use crate::course::{Course, course_of, middle_of, parallels, place_on};
 use crate::measures::{MARGIN, MAX_MIDDLE_REACH, TOP};
 use crate::vertices::Plan;
 use pg_base::Memory;
 use pg_picture::Place;
 use std::alloc::Global;
 use std::marker::Model;
+
+/// The farther of two places, in either direction.
+fn beyond(a: Place, b: Place) -> Place
+    ensures { result ≡ beyond a b }
+{
+    Place {
+        across: a.across.max(b.across),
+        down: a.down.max(b.down),
+    }
+}
 
 /// How each edge of a graph runs.
 #[derive(Debug, Drop)]
@@ -22,14 +32,14 @@ pub struct Courses {
 impl Model for Courses {
     ghost use Rattle.std.specs.Prelude.{List};
     ghost use Rattle.std.specs.List.{All};
-    ghost use Rattle.pg_places.specs.Courses.{HasNearMiddle};
+    ghost use Rattle.pg_places.specs.Courses.{IsNear};
     ghost use Rattle.pg_places.specs.declared.course.Course.{Course};
 
     ghost Value = { List Course };
 
     ghost view = { λ a. a.members.items };
 
-    ghost invariant = { λ a. All HasNearMiddle a.members.items };
+    ghost invariant = { λ a. All IsNear a.members.items };
 }
 
 impl Courses {
@@ -63,13 +73,13 @@ impl Courses {
         self.members.get(edge as usize).copied()
     }
 
-    /// The middle of an edge.
+    /// The place of an edge: where its number and its rings stand.
     pub fn place_of(&self, edge: u16) -> Place
         ensures place { result ≡ place_of_edge self.now edge }
         ensures near { IsWithin MAX_MIDDLE_REACH result }
     {
         match self.members.get(edge as usize) {
-            Some(course) => middle_of(*course),
+            Some(course) => place_on(*course),
             None => Place {
                 across: MARGIN,
                 down: TOP,
@@ -77,18 +87,14 @@ impl Courses {
         }
     }
 
-    /// How far the middles of edges reach.
+    /// How far the places and the middles of edges reach.
     pub fn farthest(&self) -> Place
         ensures place { result ≡ farthest self.now }
         ensures near { IsWithin MAX_MIDDLE_REACH result }
     {
         let mut far = Place { across: 0, down: 0 };
         for course in &self.members {
-            let middle = middle_of(*course);
-            far = Place {
-                across: far.across.max(middle.across),
-                down: far.down.max(middle.down),
-            };
+            far = beyond(beyond(far, place_on(*course)), middle_of(*course));
         }
         far
     }

@@ -1,7 +1,8 @@
 //! Laws of places. Each function is empty: what it promises is a law of the definitions alone.
-ghost use Rattle.std.specs.Prelude.{◌≡◌, ◌≢◌, ◌≤◌, ◌<◌, ℕ};
+ghost use Rattle.std.specs.Prelude.{◌≡◌, ◌≢◌, ◌≤◌, ◌<◌, ℕ, false};
 ghost use Rattle.pg_places.specs.Prelude.{Chart, IsLayout, MAX_VERTICES, spots_of};
-ghost use Rattle.pg_places.specs.Places.{IsCellApart, place_on_bridge, place_on_chart};
+ghost use Rattle.pg_places.specs.Courses.{IsChord, chord_place, have_same_ends};
+ghost use Rattle.pg_places.specs.Places.{AreApart, IsCellApart, place_on_bridge, place_on_chart};
 ghost use Rattle.pg_places.specs.Places.{place_on_circle, place_on_grid, place_on_ring};
 
 /// Different points of a board of squares lie at different places.
@@ -38,4 +39,20 @@ pub fn points_of_layouts_lie_apart()
         → v < points
         → u ≢ v
         → IsCellApart (place_on_chart chart u) (place_on_chart chart v) }
+{}
+
+/// Different edges between up to 20 vertices on a circle, each of which is the first between its
+/// ends, have places that are four units apart at least, across or down; between up to seven
+/// vertices they are 22 units apart.
+pub fn edges_on_circles_lie_apart()
+    ensures apart { (vertices : ℕ) → (a b : ℕ × ℕ) → vertices ≤ 20
+        → IsChord vertices a
+        → IsChord vertices b
+        → have_same_ends a b ≡ false
+        → AreApart 4 (chord_place vertices a) (chord_place vertices b) }
+    ensures clear { (vertices : ℕ) → (a b : ℕ × ℕ) → vertices ≤ 7
+        → IsChord vertices a
+        → IsChord vertices b
+        → have_same_ends a b ≡ false
+        → AreApart 22 (chord_place vertices a) (chord_place vertices b) }
 {}

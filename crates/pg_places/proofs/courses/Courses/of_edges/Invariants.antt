@@ -1,6 +1,6 @@
 use Rattle.std.proofs.Common.{◌≡◌, ◌++◌, take, drop, []}
 use Rattle.std.specs.List.{All}
-use Rattle.pg_places.specs.Courses.{HasNearMiddle, courses_behind}
+use Rattle.pg_places.specs.Courses.{IsNear, courses_behind}
 use Rattle.pg_places.proofs.courses.Courses.of_edges.Given as goal
 
 abbrev pub invariant-loop-i : goal.invariant-loop-i
@@ -8,5 +8,5 @@ invariant-loop-i l =
     record {
       told : l.members.items ++ courses_behind l.plan (take l.i l.ends) (drop l.i l.ends)
           ≡ courses_behind l.plan [] l.ends;
-      near : All HasNearMiddle l.members.items;
+      near : All IsNear l.members.items;
     }
