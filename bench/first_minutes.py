@@ -45,6 +45,7 @@ PLAYS = TOP / "crates" / "posgame_play" / "out" / "posgame_play"
 PROGRAMS = {"posgame": PROGRAM, "posgame-draw": DRAWS, "posgame-settle": SETTLES,
             "posgame-play": PLAYS}
 BOARD = "examples/noughts-and-crosses.game"
+PLANE = "layouts/plane-of-order-2"
 PAIRS = "examples/breaker-in-the-centre.cert"
 FAULTY = "examples/a-pair-missing.cert"
 PLAY = ["play", BOARD, PAIRS, "--side", "y"]
@@ -193,19 +194,26 @@ def draws() -> str:
         Case(["--book", BOARD, "none"], 5, "", "none: "),
         Case(["--depth", "2", BOARD, PAIRS], 2, "words: no meaning\n", "--book"),
         Case(["--book", "--depth", "1001", BOARD, PAIRS], 2, "words: no meaning\n", "1001"),
+        Case(["--book", "--layout", FAULTY, BOARD, PAIRS], 12, "layout: not for this game\n",
+             "a layout is for"),
+        Case(["--book", "--layout", "none", f"{PLANE}.game", f"{PLANE}.cert"], 5, "", "none: "),
     ):
         try_case(script, case)
     book = run(script, ["--book", BOARD, PAIRS])
     expect(book.returncode == 0 and book.stdout.startswith("<!DOCTYPE html>"), "no book")
     book = run(script, ["--book", "--depth", "0", BOARD, PAIRS])
     expect("Moves shown: 0." in book.stdout, f"no book of no moves: {book}")
+    laid = [f"{PLANE}.{it}" for it in ("layout", "game", "cert")]
+    book = run(script, ["--book", "--layout", *laid])
+    expect(book.returncode == 0 and book.stdout != run(script, ["--book", *laid[1:]]).stdout,
+           "no book at the places of a layout")
     helped = run(script, ["--help"])
     expect(helped.returncode == 0 and "C.K" in helped.stdout, f"--help: {helped}")
     told = run(script, ["--version"]).stdout
     expect(bool(re.fullmatch(r"posgame-draw [0-9.]*\n", told)), f"--version: {told!r}")
     expect(run(DRAWS, ["--version"]).stdout == told, "the program names another version")
     expect(run(DRAWS, ["--help"]).returncode == 0, "the program has no --help")
-    return "19 runs"
+    return "23 runs"
 
 
 def settles(script: pathlib.Path, room: pathlib.Path) -> int:

@@ -17,6 +17,7 @@ book is made and opened, and then
   one is also made and taken back by keys;
 - the page with most links is tabbed through: Tab must reach each link of its list, and Enter must
   follow one;
+- of a book with a layout the rings in its pictures must be at the places of its points;
 - of a connectivity game or a game on vectors the table of each page is the one that
   bench/tables.py reads from the files, and the front leads to each page;
 - it is printed: every section must be on paper, and one alone if it was chosen before;
@@ -36,7 +37,7 @@ import re
 import shutil
 import subprocess
 import time
-from typing import Any, Iterator, NamedTuple
+from typing import Any, Iterable, Iterator, NamedTuple
 
 import kit
 import played
@@ -49,6 +50,8 @@ PATIENCE = 10.0
 # The tags of HTML 5 and SVG that xmllint's list lacks.
 YOUNG = re.compile(r"Tag (section|header|main|summary|details|svg|rect|circle|line|text|g|title|"
                    r"foreignobject|foreignObject) invalid")
+RINGS = "[...document.querySelectorAll('circle.reply')]" \
+    ".map(it => [it.cx.baseVal.value, it.cy.baseVal.value])"
 TABLE = "[...%s.querySelectorAll('tr')].map(row => [...row.children].map(it => it.textContent))"
 FRONT = "header a"
 
@@ -279,6 +282,13 @@ class Player:
             self.expect(f"{page}: table", self.browser.evaluate(TABLE % SHOWN), table)
         return len(due)
 
+    def see_places(self, layout: str) -> None:
+        """Compares the places of all rings with those of a layout, but for where these begin."""
+        due = [(12 * int(it[2]), 24 * int(it[3])) for row in layout.splitlines()
+               if (it := row.split())[:1] == ["at"]]
+        found = self.browser.evaluate(RINGS)
+        self.expect("places of rings", from_corner(found), from_corner(due))
+
     def print_all(self) -> int:
         """Prints the book, and returns how many sheets it takes."""
         self.browser.emulate("print")
@@ -289,6 +299,13 @@ class Player:
         self.expect("sections on paper", self.shown(), due)
         self.browser.emulate()
         return len(re.findall(rb"/Type\s*/Page\b(?!s)", self.browser.printed()))
+
+
+def from_corner(places: Iterable[Iterable[float]]) -> list[tuple[float, float]]:
+    """Returns the places, each once, counted from the left and the top of all of them."""
+    found = {(across, down) for across, down in places}
+    left, top = (min((it[at] for it in found), default=0) for at in (0, 1))
+    return sorted((across - left, down - top) for across, down in found)
 
 
 def has_xmllint() -> bool:
@@ -330,21 +347,23 @@ def measured(browser: Browser, address: str, times: int) -> Measures:
 
 
 class Book(NamedTuple):
-    """A game and a certificate of examples/, whose book is played or only measured."""
+    """A game and a certificate of examples/, whose book is played or only measured, and the layout
+    of the book, if it has one."""
 
     name: str
     game: str
     cert: str
     is_played: bool
+    layout: str = ""
 
 
 def books(only: Any) -> Iterator[Book]:
     """Returns the books of bench/pages.txt, or one of them by its name."""
     for row in kit.data("pages.txt").splitlines():
-        game, cert, how = row.split()
-        name = cert.removesuffix(".cert")
+        game, cert, how, *layout = row.split()
+        name = pathlib.PurePath(cert).stem
         if only in (None, name):
-            yield Book(name, game, cert, how == "played")
+            yield Book(name, game, cert, how == "played", *layout)
 
 
 def play(player: Player, book: Book) -> tuple[int, int]:
@@ -355,6 +374,8 @@ def play(player: Player, book: Book) -> tuple[int, int]:
     if tables.is_family(game):
         due = tables.tables_of(game, (kit.EXAMPLES / book.cert).read_text())
         return player.read_tables(due), player.print_all()
+    if book.layout:
+        player.see_places((kit.EXAMPLES / book.layout).read_text())
     roots = [name for name in player.pages if name == "p1" or re.fullmatch(r"p\d+-1", name)]
     visited = sum(player.walk("ring", root) for root in roots)
     player.expect("pages by the list", sum(player.walk("list", root) for root in roots), visited)
@@ -366,9 +387,9 @@ def play(player: Player, book: Book) -> tuple[int, int]:
     return visited, player.print_all()
 
 
-def book_text(program: str, game: str, cert: str) -> bytes:
-    """Returns the book of files of examples/."""
-    words = program, "--book", game, cert
+def book_text(program: str, game: str, cert: str, layout: str = "") -> bytes:
+    """Returns the book of files of examples/, with a layout if it is named."""
+    words = program, "--book", *["--layout", layout][:2 * bool(layout)], game, cert
     return bytes(kit.call(*words, cwd=kit.EXAMPLES, text=False, check=True).stdout)
 
 
@@ -403,7 +424,7 @@ def main() -> int:
                       ("load (ms)", ",", LOAD), "busy", ("jump (ms)", ",", JUMP), "busy")
     with kit.files() as folder, Browser() as browser:
         for book in books(given.book):
-            text = book_text(given.program, book.game, book.cert)
+            text = book_text(given.program, book.game, book.cert, book.layout)
             path = folder / f"{book.name}.html"
             path.write_bytes(text)
             taken = measured(browser, path.as_uri(), given.times)

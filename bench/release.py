@@ -221,7 +221,7 @@ def manual(_: pathlib.Path) -> list[str]:
         "calls of posgame-draw.1", synopsis("posgame-draw.1"),
         ["posgame-draw [OPTIONS] GAME [CERT [NODE]]",
          "posgame-draw [OPTIONS] GAME RECORD [--move K]",
-         "posgame-draw --book [--depth K] GAME CERT"],
+         "posgame-draw --book [--depth K] [--layout FILE] GAME CERT"],
     )
     called = r"^    (posgame-settle .*(?:\n {8,}\[.*)*)$"
     found = re.findall(called, text_of("docs/FORMATS.md"), re.MULTILINE)

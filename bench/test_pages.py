@@ -78,7 +78,13 @@ class Expected(unittest.TestCase):
         for it in found:
             self.assertTrue((kit.EXAMPLES / it.game).is_file(), it.game)
             self.assertTrue((kit.EXAMPLES / it.cert).is_file(), it.cert)
+            self.assertTrue((kit.EXAMPLES / it.layout).exists(), it.layout)
         self.assertEqual([it.name for it in pages.books(found[0].name)], [found[0].name])
+
+    def test_places(self) -> None:
+        found = pages.from_corner([(28, 12), (14, 36), (28, 12)])
+        self.assertEqual(found, [(0, 24), (14, 0)])
+        self.assertEqual(pages.from_corner([]), [])
 
 
 class Played(unittest.TestCase):

@@ -42,11 +42,11 @@ split_words() {
 }
 
 # Sets what `read_words` sets, for posgame-draw, whose words are names, perhaps a node, and options;
-# or two names with --book, and an option.
+# or two names with --book, and two options.
 read_draw_words() {
     COMMAND='' FAMILY='' GAME='' FOLDER='' OTHER=''
     if [[ " $* " == *' --book '* ]]; then
-        split_words ' --depth ' ' --book ' "$@" || return 0
+        split_words ' --depth --layout ' ' --book ' "$@" || return 0
         ((${#POSITIONALS[@]} == 2)) && COMMAND=book GAME=${POSITIONALS[0]} OTHER=${POSITIONALS[1]}
         return 0
     fi

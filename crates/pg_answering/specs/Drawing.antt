@@ -27,7 +27,7 @@ pub record DrawsPicture (words : List Bytes) (before after : Told) (status : ℕ
 -- the whole proof of the certificate under the second name is printed as a book, for the game under
 -- the first: each clause of `bind` of `pg_binding` holds
 pub record PrintsBook (game certificate : Bytes) (before after : Told) (status : ℕ) : Type 0 where
-  pub ran : BookRan game certificate None before.files.held before.console after.console status
+  pub ran : BookRan game certificate None None before.files.held before.console after.console status
   pub silent : IsStopped status → Grows before.console.log after.console.log []
   pub statuses : Contains book_statuses status
   pub files : ReadsOnly before.files after.files

@@ -31,6 +31,7 @@ fn print_book(alloc: Global, game: &str, certificate: &str, machine: &mut Machin
     let order = BookOrder {
         game,
         certificate,
+        layout: None,
         depth: None,
     };
     bind(alloc, order, &mut machine.files, &mut machine.console)

@@ -1,5 +1,6 @@
 -- What the proofs of this crate name of the crates below.
-pub use Rattle.pg_binding.specs.Prelude.{Bytes, Cert, ConsoleTold, Contains, DONE, Evidence, Finds}
+pub use Rattle.pg_binding.specs.Prelude.{Bytes, Cert, Chart, ConsoleTold, Contains, DONE, Evidence}
+pub use Rattle.pg_binding.specs.Prelude.{Finds}
 pub use Rattle.pg_binding.specs.Prelude.{FileError, Game, Halt, HaltCauses, HasFault, Holding}
 pub use Rattle.pg_binding.specs.Prelude.{IsAbsent, IsFirstFlaw, IsFirstVecFault, IsFound}
 pub use Rattle.pg_binding.specs.Prelude.{IsInnerHalt, IsLackingOne, IsReadAs, IsReadHalt}

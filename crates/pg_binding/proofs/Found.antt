@@ -2,7 +2,8 @@
 use Rattle.std.proofs.Common.{◌≡◌, ℕ, Option, Some, None, Result, Ok, Err, refl, sym, subst, ap}
 use Rattle.std.proofs.Common.{◌∙◌}
 use Rattle.std.proofs.Common.{inl, inr, IfOk, IfErr, ◌≤◌, Bool, true, false}
-use Rattle.pg_binding.proofs.Common.{Bytes, Cert, DONE, Evidence, Finds, Game, Halt, HasFault}
+use Rattle.pg_binding.proofs.Common.{Bytes, Cert, Chart, DONE, Evidence, Finds, Game, Halt}
+use Rattle.pg_binding.proofs.Common.{HasFault}
 use Rattle.pg_binding.proofs.Common.{Holding, IsFirstFlaw, IsFirstVecFault, IsFound, IsInnerHalt}
 use Rattle.pg_binding.proofs.Common.{IsPlayTree, IsReadHalt, IsSpanValid, IsValid, IsVecValid}
 use Rattle.pg_binding.proofs.Common.{MakesStanding, Memory, Opens, Read, Refused, SpanCert}
@@ -20,11 +21,11 @@ use Rattle.pg_binding.specs.Due.{IsSpanDue, IsWholeBook}
 
 -- ---- a certificate that was read
 
-module _ (g : Game) (e : Evidence) (depth : Option ℕ) where
+module _ (g : Game) (e : Evidence) (layout : Option Chart) (depth : Option ℕ) where
   -- it stands for none
   pub unmade_due : (halt : Halt)
       → MakesStanding g e (Err halt)
-      → IsFound (IsEvidenceDue g e depth) (Err halt)
+      → IsFound (IsEvidenceDue g e layout depth) (Err halt)
   unmade_due (Refused refusal) rejects = inr (record {
     refusal = refusal;
     rejects = inl rejects;
@@ -36,7 +37,7 @@ module _ (g : Game) (e : Evidence) (depth : Option ℕ) where
   -- the certificate for which it stands has a fault
   pub rejected_due : (claim node why : ℕ)
       → HasFault g e claim node why
-      → IsFound (IsEvidenceDue g e depth) (Err (Refused (Rejected claim node why)))
+      → IsFound (IsEvidenceDue g e layout depth) (Err (Refused (Rejected claim node why)))
   rejected_due claim node why fault = inr (record {
     refusal = Rejected claim node why;
     rejects = inr (claim, node, why, fault, refl);
@@ -48,8 +49,8 @@ module _ (g : Game) (e : Evidence) (depth : Option ℕ) where
   pub book_due : (cert : Cert)
       → StandsFor g e cert
       → IsValid g cert
-      → (r : Result Telling Halt) → IsShownBook g cert depth r
-      → IsFound (IsEvidenceDue g e depth) r
+      → (r : Result Telling Halt) → IsShownBook g cert layout depth r
+      → IsFound (IsEvidenceDue g e layout depth) r
   book_due cert stands valid (Ok told) (shown, shows, text, status) = inl (record {
     cert = cert;
     stands = stands;
@@ -60,7 +61,7 @@ module _ (g : Game) (e : Evidence) (depth : Option ℕ) where
     status_is = status;
   })
   book_due cert stands valid (Err halt) same =
-      subst (λ (h : Halt). IsFound (IsEvidenceDue g e depth) (Err h)) (sym same) tt
+      subst (λ (h : Halt). IsFound (IsEvidenceDue g e layout depth) (Err h)) (sym same) tt
 
 -- a tree of play that was found is shown
 pub tree_shown : {E : Type 0} (g : Game) (cert tree : Cert) (found : Result (Option Cert) E)
@@ -81,34 +82,38 @@ tree_shown {E = E} g cert tree found is no_sets played valid few = inr (record {
   some false none = let clash : ◌≡◌ {A = Result (Option Cert) E} (Ok (Some tree)) (Ok None) =
       sym is ∙ none refl in absurd cc
 
-pub book_shown : (g : Game) (cert shown : Cert) (depth : Option ℕ) (r : Result Telling Halt)
+pub book_shown : (g : Game) (cert shown : Cert) (layout : Option Chart) (depth : Option ℕ)
+    (r : Result Telling Halt)
     → IsShownAs g cert shown
-    → IsWholeBook (book_text g shown depth) r
-    → IsShownBook g cert depth r
-book_shown g cert shown depth (Ok told) shows whole = (shown, shows, whole.0, whole.1)
-book_shown g cert shown depth (Err halt) shows whole = whole
+    → IsWholeBook (book_text layout g shown depth) r
+    → IsShownBook g cert layout depth r
+book_shown g cert shown layout depth (Ok told) shows whole = (shown, shows, whole.0, whole.1)
+book_shown g cert shown layout depth (Err halt) shows whole = whole
 
-pub shown_done : (g : Game) (cert : Cert) (depth : Option ℕ) (r : Result Telling Halt)
-    → IsShownBook g cert depth r
+pub shown_done : (g : Game) (cert : Cert) (layout : Option Chart) (depth : Option ℕ)
+    (r : Result Telling Halt)
+    → IsShownBook g cert layout depth r
     → IfOk r (λ told. told.status ≡ DONE)
-shown_done g cert depth (Ok told) (shown, shows, text, status) = status
-shown_done g cert depth (Err halt) same = tt
+shown_done g cert layout depth (Ok told) (shown, shows, text, status) = status
+shown_done g cert layout depth (Err halt) same = tt
 
-pub shown_halts : (g : Game) (cert : Cert) (depth : Option ℕ) (r : Result Telling Halt)
-    → IsShownBook g cert depth r
+pub shown_halts : (g : Game) (cert : Cert) (layout : Option Chart) (depth : Option ℕ)
+    (r : Result Telling Halt)
+    → IsShownBook g cert layout depth r
     → IfErr r IsInnerHalt
-shown_halts g cert depth (Ok told) book = tt
-shown_halts g cert depth (Err halt) same = subst IsInnerHalt (sym same) tt
+shown_halts g cert layout depth (Ok told) book = tt
+shown_halts g cert layout depth (Err halt) same = subst IsInnerHalt (sym same) tt
 
 -- the same of equal games and certificates
-pub same_shown : (g h : Game) (cert known : Cert) (depth : Option ℕ) (r : Result Telling Halt)
+pub same_shown : (g h : Game) (cert known : Cert) (layout : Option Chart) (depth : Option ℕ)
+    (r : Result Telling Halt)
     → h ≡ g
     → known ≡ cert
-    → IsShownBook h known depth r
-    → IsShownBook g cert depth r
-same_shown g h cert known depth r same same_cert shown =
-    subst (λ (k : Game). IsShownBook k cert depth r) same
-    (subst (λ (c : Cert). IsShownBook h c depth r) same_cert shown)
+    → IsShownBook h known layout depth r
+    → IsShownBook g cert layout depth r
+same_shown g h cert known layout depth r same same_cert shown =
+    subst (λ (k : Game). IsShownBook k cert layout depth r) same
+    (subst (λ (c : Cert). IsShownBook h c layout depth r) same_cert shown)
 
 module _ (g : SpanGame) (c : SpanCert) where
   pub span_rejected : (claim : ℕ) (why : SpanFlaw)
@@ -171,31 +176,31 @@ inner_read (Err (Stopped Memory)) inner = tt
 
 -- ---- a game with the certificate of a name, by how certificates of its kind are read
 
-module _ {C : Type 0} (depth : Option ℕ) (read : Option Bytes → Result C Halt)
-    (pair : Result C Halt → Result BookEntry Halt)
+module _ {C : Type 0} (layout : Option Chart) (depth : Option ℕ)
+    (read : Option Bytes → Result C Halt) (pair : Result C Halt → Result BookEntry Halt)
     (refused : (halt : Halt) → pair (Err halt) ≡ Err halt) where
   pub opened_due : (h : Option Holding) (certificate : Bytes) (c : C) (due : Bytes → ℕ → Type 0)
       → ((text : Bytes) (status : ℕ) → due text status
-      → IsBookDue depth (pair (Ok c)) text status)
+      → IsBookDue layout depth (pair (Ok c)) text status)
       → Opens (λ (x : C). x) read h certificate (Ok c)
       → (r : Result Telling Halt) → IsFound due r
-      → Finds h (λ held. IsBookDue depth (pair (read (held certificate)))) r
+      → Finds h (λ held. IsBookDue layout depth (pair (read (held certificate)))) r
   opened_due None certificate c due all opens r found = tt
   opened_due (Some held) certificate c due all opens r found =
-      subst (λ (o : Result C Halt). IsFound (IsBookDue depth (pair o)) r) (sym opens)
+      subst (λ (o : Result C Halt). IsFound (IsBookDue layout depth (pair o)) r) (sym opens)
       (each r found) where
         each : (r : Result Telling Halt)
             → IsFound due r
-            → IsFound (IsBookDue depth (pair (Ok c))) r
+            → IsFound (IsBookDue layout depth (pair (Ok c))) r
         each (Ok told) found = all _ told.status found
         each (Err (Refused refusal)) found = all _ _ found
         each (Err (Stopped stop)) found = tt
 
   pub unopened_due : (h : Option Holding) (certificate : Bytes) (halt : Halt)
       → Opens (λ (x : C). x) read h certificate (Err halt)
-      → Finds h (λ held. IsBookDue depth (pair (read (held certificate)))) (Err halt)
+      → Finds h (λ held. IsBookDue layout depth (pair (read (held certificate)))) (Err halt)
   unopened_due None certificate halt opens = tt
-  unopened_due (Some held) certificate (Refused refusal) opens =
-      subst (λ (o : Result BookEntry Halt). IsFound (IsBookDue depth o) (Err (Refused refusal)))
+  unopened_due (Some held) certificate (Refused refusal) opens = subst
+      (λ (o : Result BookEntry Halt). IsFound (IsBookDue layout depth o) (Err (Refused refusal)))
       (sym (ap pair opens ∙ refused (Refused refusal))) (refl, refl)
   unopened_due (Some held) certificate (Stopped stop) opens = tt

@@ -1,7 +1,8 @@
 -- WHAT IS PRINTED, with its status.
 use Rattle.std.specs.Prelude.{◌≡◌, ◌⊎◌, ◌≤◌, ℕ, true, Option, Result, Ok, Err, string_bytes}
-use Rattle.pg_binding.specs.Prelude.{Bytes, Cert, DONE, Evidence, Game, Halt, IsHaltDue, IsSaidBy}
-use Rattle.pg_binding.specs.Prelude.{IsPlayTree, IsSpanValid, IsValid, IsVecValid, Memory}
+use Rattle.pg_binding.specs.Prelude.{Bytes, Cert, Chart, DONE, Evidence, Game, Halt, IsHaltDue}
+use Rattle.pg_binding.specs.Prelude.{IsPlayTree, IsSaidBy, IsSpanValid, IsValid, IsVecValid}
+use Rattle.pg_binding.specs.Prelude.{Memory}
 use Rattle.pg_binding.specs.Prelude.{Refusal, has_sets, node_count}
 use Rattle.pg_binding.specs.Prelude.{RejectsEvidence, RejectsSpan, RejectsVectors, SpanCert}
 use Rattle.pg_binding.specs.Prelude.{SpanGame, StandsFor, Stopped, Telling, VecGame, book_text}
@@ -24,16 +25,16 @@ pub record IsPlayedOut (g : Game) (cert tree : Cert) : Type 0 where
 abbrev pub IsShownAs : Game → Cert → Cert → Type 0
 IsShownAs g cert shown = (shown ≡ cert) ⊎ IsPlayedOut g cert shown
 
--- the book, to that depth if there is one, of what is shown of the certificate for which this one
--- stands, which is valid
-pub record IsBook (g : Game) (e : Evidence) (depth : Option ℕ) (text : Bytes) (status : ℕ)
-    : Type 0 where
+-- the book, with that layout and to that depth if there are such, of what is shown of the
+-- certificate for which this one stands, which is valid
+pub record IsBook (g : Game) (e : Evidence) (layout : Option Chart) (depth : Option ℕ)
+    (text : Bytes) (status : ℕ) : Type 0 where
   pub cert : Cert
   pub stands : StandsFor g e cert
   pub valid : IsValid g cert
   pub shown : Cert
   pub shows : IsShownAs g cert shown
-  pub text_is : text ≡ book_text g shown depth
+  pub text_is : text ≡ book_text layout g shown depth
   pub status_is : status ≡ DONE
 
 -- the book of a valid certificate of a connectivity game
@@ -58,9 +59,9 @@ pub record IsRejection (Rejects : Refusal → Type 0) (text : Bytes) (status : �
 -- ---- what was read
 
 -- a certificate's book, or why it is rejected
-abbrev pub IsEvidenceDue : Game → Evidence → Option ℕ → Bytes → ℕ → Type 0
-IsEvidenceDue g e depth text status =
-    IsBook g e depth text status ⊎ IsRejection (RejectsEvidence g e) text status
+abbrev pub IsEvidenceDue : Game → Evidence → Option Chart → Option ℕ → Bytes → ℕ → Type 0
+IsEvidenceDue g e layout depth text status =
+    IsBook g e layout depth text status ⊎ IsRejection (RejectsEvidence g e) text status
 
 abbrev pub IsSpanDue : SpanGame → SpanCert → Bytes → ℕ → Type 0
 IsSpanDue g c text status = IsSpanBook g c text status ⊎ IsRejection (RejectsSpan g c) text status
@@ -69,15 +70,15 @@ abbrev pub AreVectorsDue : VecGame → Cert → Bytes → ℕ → Type 0
 AreVectorsDue g c text status =
     IsVectorBook g c text status ⊎ IsRejection (RejectsVectors g c) text status
 
--- what is printed of a game and a certificate that were read, or of what was refused, if books are
--- to have that depth
-abbrev pub IsBookDue : Option ℕ → Result BookEntry Halt → Bytes → ℕ → Type 0
-IsBookDue depth (Err halt) text status = IsHaltDue halt text status
-IsBookDue depth (Ok (OfGame entry e)) text status =
-    (g : Game) × IsSaidBy entry g × IsEvidenceDue g e depth text status
-IsBookDue depth (Ok (OfSpan entry c)) text status =
+-- what is printed of a game and a certificate that were read, or of what was refused, if books of
+-- games on lines and of switching games are to have that layout and that depth
+abbrev pub IsBookDue : Option Chart → Option ℕ → Result BookEntry Halt → Bytes → ℕ → Type 0
+IsBookDue layout depth (Err halt) text status = IsHaltDue halt text status
+IsBookDue layout depth (Ok (OfGame entry e)) text status =
+    (g : Game) × IsSaidBy entry g × IsEvidenceDue g e layout depth text status
+IsBookDue layout depth (Ok (OfSpan entry c)) text status =
     (g : SpanGame) × (span_entry g ≡ entry) × IsSpanDue g c text status
-IsBookDue depth (Ok (OfVectors entry c)) text status =
+IsBookDue layout depth (Ok (OfVectors entry c)) text status =
     (g : VecGame) × (vector_entry g ≡ entry) × AreVectorsDue g c text status
 
 -- ---- what the code makes
@@ -88,8 +89,8 @@ IsWholeBook text (Ok told) = (string_bytes told.words ≡ text) × (told.status 
 IsWholeBook text (Err halt) = halt ≡ Stopped Memory
 
 -- the book of what is shown of a certificate, unless memory ran out
-abbrev pub IsShownBook : Game → Cert → Option ℕ → Result Telling Halt → Type 0
-IsShownBook g cert depth (Ok told) = (shown : Cert) × IsShownAs g cert shown
-    × (string_bytes told.words ≡ book_text g shown depth)
+abbrev pub IsShownBook : Game → Cert → Option Chart → Option ℕ → Result Telling Halt → Type 0
+IsShownBook g cert layout depth (Ok told) = (shown : Cert) × IsShownAs g cert shown
+    × (string_bytes told.words ≡ book_text layout g shown depth)
     × (told.status ≡ DONE)
-IsShownBook g cert depth (Err halt) = halt ≡ Stopped Memory
+IsShownBook g cert layout depth (Err halt) = halt ≡ Stopped Memory

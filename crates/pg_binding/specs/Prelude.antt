@@ -27,6 +27,7 @@ pub use Rattle.pg_gf2.specs.declared.game.VecGame.{VecGame}
 pub use Rattle.pg_io.specs.Console.{ConsoleTold, Grows}
 pub use Rattle.pg_io.specs.Files.{Bytes, Holding, IsAbsent, ReadsOnly}
 pub use Rattle.pg_io.specs.declared.stop.Stop.TheVariants.{Memory, Read, Write}
+pub use Rattle.pg_layout.specs.declared.chart.Chart.{Chart}
 pub use Rattle.pg_messages.specs.Statuses.{refusal_status}
 pub use Rattle.pg_messages.specs.Texts.{refusal_text}
 pub use Rattle.pg_messages.specs.declared.refusal.Refusal.{Refusal}

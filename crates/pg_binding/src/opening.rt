@@ -1,7 +1,8 @@
 //! Reading the game and the certificate, and what there is to print of them.
 ghost use Rattle.std.specs.Prelude.{◌≡◌, ℕ, Option, Ok, IfErr, IfOk};
-ghost use Rattle.pg_binding.specs.Prelude.{DONE, Finds, HaltCauses, IsLackingOne, IsLackingTwo};
-ghost use Rattle.pg_binding.specs.Prelude.{IsReadHalt, ReadsOnly, entry, span_entry, vector_entry};
+ghost use Rattle.pg_binding.specs.Prelude.{Chart, DONE, Finds, HaltCauses, IsLackingOne};
+ghost use Rattle.pg_binding.specs.Prelude.{IsLackingTwo, IsReadHalt, ReadsOnly, entry, span_entry};
+ghost use Rattle.pg_binding.specs.Prelude.{vector_entry};
 ghost use Rattle.pg_binding.specs.Games.{any_entry};
 ghost use Rattle.pg_binding.specs.Games.AnyEntry.{Connectivity, Positional, Vectors};
 ghost use Rattle.pg_binding.specs.Books.{book_held, with_evidence};
@@ -17,6 +18,7 @@ use pg_families::open_span_cert;
 use pg_game::Game;
 use pg_gf2::VecGame;
 use pg_io::Files;
+use pg_layout::Chart;
 use pg_span::SpanGame;
 use pg_talk::{Halt, open_certificate};
 use std::alloc::Global;
@@ -27,10 +29,11 @@ fn tell_on_game<F: Files>(
     files: &mut F,
     game: &Game,
     certificate: &str,
+    layout: Option<Chart>,
     depth: Option<u32>,
 ) -> Result<Telling, Halt>
     ensures found { Finds (F.told files.old).held
-        (λ held. IsBookDue depth
+        (λ held. IsBookDue layout depth
         (with_evidence (Ok (Positional (entry game.now))) (held certificate.now))) result }
     ensures status { IfOk result (λ told. told.status ≡ DONE) }
     ensures halts { IfErr result IsReadHalt }
@@ -40,7 +43,7 @@ fn tell_on_game<F: Files>(
     ensures kept { ReadsOnly (F.told files.old) (F.told files.new) }
 {
     let evidence = open_evidence(alloc, files, certificate)?;
-    tell_evidence(alloc, game, evidence, depth)
+    tell_evidence(alloc, game, evidence, layout, depth)
 }
 
 /// Returns the book of the certificate under a name for a connectivity game.
@@ -50,8 +53,8 @@ fn tell_on_span<F: Files>(
     game: &SpanGame,
     certificate: &str,
 ) -> Result<Telling, Halt>
-    ensures found { (depth : Option ℕ) → Finds (F.told files.old).held
-        (λ held. IsBookDue depth
+    ensures found { (layout : Option Chart) → (depth : Option ℕ) → Finds (F.told files.old).held
+        (λ held. IsBookDue layout depth
         (with_evidence (Ok (Connectivity (span_entry game.now))) (held certificate.now))) result }
     ensures status { IfOk result (λ told. told.status ≡ DONE) }
     ensures halts { IfErr result IsReadHalt }
@@ -72,8 +75,8 @@ fn tell_on_vectors<F: Files>(
     game: &VecGame,
     certificate: &str,
 ) -> Result<Telling, Halt>
-    ensures found { (depth : Option ℕ) → Finds (F.told files.old).held
-        (λ held. IsBookDue depth
+    ensures found { (layout : Option Chart) → (depth : Option ℕ) → Finds (F.told files.old).held
+        (λ held. IsBookDue layout depth
         (with_evidence (Ok (Vectors (vector_entry game.now))) (held certificate.now))) result }
     ensures status { IfOk result (λ told. told.status ≡ DONE) }
     ensures halts { IfErr result IsReadHalt }
@@ -94,10 +97,11 @@ fn tell_on<F: Files>(
     files: &mut F,
     game: &BookGame,
     certificate: &str,
+    layout: Option<Chart>,
     depth: Option<u32>,
 ) -> Result<Telling, Halt>
     ensures found { Finds (F.told files.old).held
-        (λ held. IsBookDue depth
+        (λ held. IsBookDue layout depth
         (with_evidence (Ok (any_entry game.now)) (held certificate.now))) result }
     ensures status { IfOk result (λ told. told.status ≡ DONE) }
     ensures halts { IfErr result IsReadHalt }
@@ -107,7 +111,7 @@ fn tell_on<F: Files>(
     ensures kept { ReadsOnly (F.told files.old) (F.told files.new) }
 {
     match game {
-        BookGame::Positional(on) => tell_on_game(alloc, files, on, certificate, depth),
+        BookGame::Positional(on) => tell_on_game(alloc, files, on, certificate, layout, depth),
         BookGame::Connectivity(on) => tell_on_span(alloc, files, on, certificate),
         BookGame::Vectors(on) => tell_on_vectors(alloc, files, on, certificate),
     }
@@ -120,8 +124,8 @@ pub(crate) fn tell<F: Files>(
     files: &mut F,
 ) -> Result<Telling, Halt>
     ensures found { Finds (F.told files.old).held
-        (λ held. IsBookDue order.entry.depth (book_held (held order.entry.game.now)
-        (held order.entry.certificate.now))) result }
+        (λ held. IsBookDue order.entry.layout order.entry.depth
+        (book_held (held order.entry.game.now) (held order.entry.certificate.now))) result }
     ensures status { IfOk result (λ told. told.status ≡ DONE) }
     ensures halts { IfErr result IsReadHalt }
     ensures causes { HaltCauses (IsLackingTwo book_held (F.told files.old).held
@@ -130,5 +134,12 @@ pub(crate) fn tell<F: Files>(
     ensures kept { ReadsOnly (F.told files.old) (F.told files.new) }
 {
     let game = open_book_game(alloc, files, order.game)?;
-    tell_on(alloc, files, &game, order.certificate, order.depth)
+    tell_on(
+        alloc,
+        files,
+        &game,
+        order.certificate,
+        order.layout,
+        order.depth,
+    )
 }

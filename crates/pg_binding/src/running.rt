@@ -16,7 +16,9 @@ use std::alloc::Global;
 /// Prints the proof of a certificate as a book, one page of HTML, and returns the status. The game
 /// is one on lines of points, a switching game, a connectivity game or one on vectors. The
 /// certificate of the first two may have images: the book is then that of the certificate for which
-/// it stands. It is checked first. The book of the first two shows positions to the order's depth.
+/// it stands. It is checked first. The book of the first two has the points at the places of the
+/// order's layout, if the game is on lines without a grid and has as many, and shows positions to
+/// the order's depth.
 ///
 /// - 0: the book is printed, and the certificate is valid for the game.
 /// - 3: the game file is invalid.
@@ -35,8 +37,8 @@ pub fn bind<F: Files, C: Console>(
     files: &mut F,
     console: &mut C,
 ) -> u8
-    ensures ran { Ran order.entry.game.now order.entry.certificate.now order.entry.depth
-        (F.told files.old).held (C.told console.old) (C.told console.new) result }
+    ensures ran { Ran order.entry.game.now order.entry.certificate.now order.entry.layout
+        order.entry.depth (F.told files.old).held (C.told console.old) (C.told console.new) result }
     ensures silent { IsStopped result → Grows (C.told console.old).log (C.told console.new).log [] }
     ensures statuses { Contains book_statuses result }
     ensures files { ReadsOnly (F.told files.old) (F.told files.new) }

@@ -15,6 +15,7 @@ use pg_family_book::{print_span_book, print_vector_book};
 use pg_game::Game;
 use pg_gf2::{VecFault, VecGame, vec_check};
 use pg_io::Stop;
+use pg_layout::Chart;
 use pg_messages::{DONE, Refusal};
 use pg_play_tree::play_tree;
 use pg_span::{SpanCert, SpanFault, SpanGame, span_check};
@@ -24,32 +25,44 @@ use std::alloc::Global;
 /// The most nodes of the trees of play that a book shows in place of trees and cuts.
 const MAX_PAGES: u32 = 400;
 
-/// Returns the book of a certificate, to that depth if there is one.
-fn whole_book(alloc: Global, game: &Game, cert: &Cert, depth: Option<u32>) -> Result<Telling, Halt>
+/// Returns the book of a certificate, with that layout and to that depth if there are such.
+fn whole_book(
+    alloc: Global,
+    game: &Game,
+    cert: &Cert,
+    layout: Option<Chart>,
+    depth: Option<u32>,
+) -> Result<Telling, Halt>
     requires { IsWithinLimits cert.now }
-    ensures { IsWholeBook (book_text game.now cert.now depth) result }
+    ensures { IsWholeBook (book_text layout game.now cert.now depth) result }
 {
-    let words = print_book(alloc, game, cert, depth)?;
+    let words = print_book(alloc, layout, game, cert, depth)?;
     Ok(Telling {
         words,
         status: DONE,
     })
 }
 
-/// Returns the book of a valid certificate, to that depth if there is one. If the certificate rests
-/// on trees or cuts, and its tree of play has at most `MAX_PAGES` nodes, it is the book of that.
-fn shown_book(alloc: Global, checked: Checked<'_>, depth: Option<u32>) -> Result<Telling, Halt>
+/// Returns the book of a valid certificate, with that layout and to that depth if there are such.
+/// If the certificate rests on trees or cuts, and its tree of play has at most `MAX_PAGES` nodes,
+/// it is the book of that.
+fn shown_book(
+    alloc: Global,
+    checked: Checked<'_>,
+    layout: Option<Chart>,
+    depth: Option<u32>,
+) -> Result<Telling, Halt>
     requires { IsWithinLimits checked.cert.now }
-    ensures { IsShownBook checked.entry.game.now checked.entry.cert.now depth result }
+    ensures { IsShownBook checked.entry.game.now checked.entry.cert.now layout depth result }
 {
     match play_tree(alloc, checked, MAX_PAGES)? {
-        Some(tree) => whole_book(alloc, checked.game, &tree, depth),
-        None => whole_book(alloc, checked.game, checked.cert, depth),
+        Some(tree) => whole_book(alloc, checked.game, &tree, layout, depth),
+        None => whole_book(alloc, checked.game, checked.cert, layout, depth),
     }
 }
 
-/// Returns the book of the certificate for which this one stands, to that depth, if that is valid.
-/// Trees and cuts are shown move by move if that has few pages.
+/// Returns the book of the certificate for which this one stands, with that layout and to that
+/// depth, if that is valid. Trees and cuts are shown move by move if that has few pages.
 ///
 /// # Errors
 ///
@@ -59,16 +72,17 @@ pub(crate) fn tell_evidence(
     alloc: Global,
     game: &Game,
     evidence: Evidence,
+    layout: Option<Chart>,
     depth: Option<u32>,
 ) -> Result<Telling, Halt>
     requires { IsWithinItsLimits evidence }
-    ensures found { IsFound (IsEvidenceDue game.now evidence depth) result }
+    ensures found { IsFound (IsEvidenceDue game.now evidence layout depth) result }
     ensures status { IfOk result (λ told. told.status ≡ DONE) }
     ensures halts { IfErr result IsInnerHalt }
 {
     let standing = standing_of(alloc, game, evidence)?;
     match check_standing(alloc, game, &standing) {
-        Ok(checked) => shown_book(alloc, checked, depth),
+        Ok(checked) => shown_book(alloc, checked, layout, depth),
         Err(CheckFault::Reject { claim, node, why }) => {
             Err(Halt::Refused(Refusal::Rejected { claim, node, why }))
         }

@@ -1,5 +1,4 @@
 pub mod Rows
-pub mod Before
 pub mod Nodes
 pub mod Members
 pub mod Near

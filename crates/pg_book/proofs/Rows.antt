@@ -11,6 +11,7 @@ use Rattle.pg_game.specs.declared.field.Field.TheVariants as fields
 use Rattle.pg_gen.specs.Bridge.{has_bridge}
 use Rattle.pg_gen.specs.declared.limits.TheConstants.{MAX_BRIDGE_ROWS}
 use Rattle.pg_graph.specs.declared.graph.Graph.{Graph as Multigraph}
+use Rattle.pg_layout.specs.declared.chart.Chart.{Chart}
 use Rattle.pg_scene.specs.Limits.{IsBridge}
 use Rattle.pg_scene.specs.Scenes.{IsBoardOf}
 use Rattle.pg_scene.specs.declared.board.Board.{Board}
@@ -167,18 +168,18 @@ rows-same h (Some r) found missed =
 rows-same h None found missed =
     sym (misses h (suc MAX_BRIDGE_ROWS) (λ r is. missed r (tells h r is)))
 
--- the board of a scene without a layout
-pub bare-same : (field : Field) (board : Board)
-    → IsBoardOf None field board
-    → board ≡ board_of field
-bare-same (fields.Lines f) board is = is
-bare-same (fields.Graph h) board is = is.same
+-- the board of a scene with this layout
+pub laid-same : (chart : Option Chart) (field : Field) (board : Board)
+    → IsBoardOf chart field board
+    → board ≡ board_of chart field
+laid-same chart (fields.Lines f) board is = is
+laid-same chart (fields.Graph h) board is = is.same
     ∙ ap (Graph h.vertices h.ends (h.s ∷ h.t ∷ [])) (rows-same h is.rows is.found is.missed)
 
 -- that of a page's scene
-pub board-same : (look : Look) (field : Field) (board : Board)
-    → look ≡ page_look
+pub board-same : (chart : Option Chart) (look : Look) (field : Field) (board : Board)
+    → look ≡ page_look chart
     → IsBoardOf look.layout field board
-    → board ≡ board_of field
-board-same look field board looks is =
-    bare-same field board (subst (λ (l : Look). IsBoardOf l.layout field board) looks is)
+    → board ≡ board_of chart field
+board-same chart look field board looks is =
+    laid-same chart field board (subst (λ (l : Look). IsBoardOf l.layout field board) looks is)

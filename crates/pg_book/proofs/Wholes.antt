@@ -15,8 +15,8 @@ use Rattle.pg_cert.specs.declared.node.Body.{Body}
 use Rattle.pg_cert.specs.declared.node.Body.TheVariants as bodies
 use Rattle.pg_cert.specs.declared.node.Node.{Node}
 use Rattle.pg_cert.specs.declared.reply.Reply.{Reply}
-use Rattle.pg_draw.specs.Pictures.{picture_of}
 use Rattle.pg_game.specs.declared.game.Game.{Game}
+use Rattle.pg_layout.specs.declared.chart.Chart.{Chart}
 use Rattle.pg_page.specs.Events.{IsWhole}
 use Rattle.pg_page.specs.Html.{worded}
 use Rattle.pg_page.specs.declared.attribute.Name.TheVariants as names
@@ -45,9 +45,8 @@ use Rattle.pg_book.specs.Depths.{depth_pieces, depth_words, ordered}
 use Rattle.pg_book.specs.Laws.{book_ids, chapter_ids, claim_ids}
 use Rattle.pg_book_parts.specs.Reading.{section_ids, targets}
 use Rattle.pg_book_parts.specs.Pictures.{over_pieces, shape_pieces}
-use Rattle.pg_book.specs.Origins.{origin_lead, origin_of, origin_pieces}
-use Rattle.pg_book.specs.declared.origins.Origin.{Origin}
-use Rattle.pg_book.specs.Scenes.{blank_picture, page_look, page_scene}
+use Rattle.pg_book_parts.specs.Origins.{origin_of, origin_pieces}
+use Rattle.pg_book.specs.Scenes.{blank_picture, page_picture}
 use Rattle.pg_book.specs.Boards.{layout_of}
 use Rattle.pg_book.specs.Sentences.{body_pieces, list_pieces, move_pieces, point_lead}
 use Rattle.pg_book.specs.Sentences.{reply_pieces, step_by, step_words, steps_list, steps_pieces}
@@ -67,7 +66,8 @@ use Rattle.pg_book_parts.proofs.Parts.{leads-one}
 use Rattle.pg_book_parts.proofs.Parts.{lone-part, no-part, plain-part, range-part, said-part}
 use Rattle.pg_book_parts.proofs.Parts.{style-part}
 use Rattle.pg_book_parts.proofs.Parts.{then-part, words-part}
-use Rattle.pg_book_parts.proofs.Shown.{link-part, over-part, paragraph-part, shape-part}
+use Rattle.pg_book_parts.proofs.Shown.{link-part, origin-part, over-part, paragraph-part}
+use Rattle.pg_book_parts.proofs.Shown.{shape-part}
 
 -- ---- what has no links
 
@@ -256,15 +256,6 @@ module _ (ok : Bytes → Type 0) (chapter : Chapter)
       (pieces.Words (codes "Legend") ∷ []) refl (leads-one ok LEGEND.now legend_ok)
       (words-part ok (codes "Legend"))))))
 
-  origin-part : (layout : Layout) (found : Option Origin)
-      → IsPart ok [] (origin_pieces layout chapter found)
-  origin-part layout None = no-part ok
-  origin-part layout (Some origin) =
-      let link = link_pieces chapter origin.node in
-      plain-part ok tags.P (worded names.Class (codes "from") ∷ []) []
-      (pieces.Words (origin_lead layout origin) ∷ link) refl refl
-      (said-part ok [] (origin_lead layout origin) link (link-of origin.node))
-
   page-part : (layout : Layout) (claim : Claim) (page : ℕ) (body : Body) (picture : Picture)
       (lines : List Bytes)
       → IsPart ok (page_id chapter page ∷ [])
@@ -279,7 +270,7 @@ module _ (ok : Bytes → Type 0) (chapter : Chapter)
       (then-part ok [] (heading_pieces chapter page) (origin ++ (board ++ (said ++ last)))
       (label-part ok tags.H2 [] (codes "Page " ++ number_text chapter page) refl refl)
       (then-part ok [] origin (board ++ (said ++ last))
-      (origin-part layout (origin_of claim chapter page))
+      (origin-part ok chapter page_ok layout (origin_of claim chapter page))
       (then-part ok [] board (said ++ last) (board-part layout claim.side page body picture)
       (then-part ok [] said last (body-part layout claim.side body)
       (then-part ok [] (detail_pieces body lines) (leave_pieces chapter)
@@ -292,7 +283,7 @@ module _ (ok : Bytes → Type 0) (chapter : Chapter)
       (section_by g layout claim chapter (i + 1) found)
   node-part g layout claim i None some = absurd (some refl)
   node-part g layout claim i (Some node) some = page-part layout claim (i + 1) node.body
-      (picture_of page_look (page_scene g claim.side node))
+      (page_picture g layout.chart claim.side node)
       (body_lines g (position_of node) claim.side node.body)
 
   -- the sections of the claim, by whose nodes the pages are numbered
@@ -395,28 +386,30 @@ module _ (g : Game) (layout : Layout) (depth : Option ℕ) (claims : List Claim)
   -- the pieces of a book, whatever layout its moves are named and placed by
   pub by-part : IsPart ok (book_ids g depth claims)
       (element tags.Html (worded names.Lang (codes "en") ∷ [])
-      (head_pieces (blank_picture g) ++ shown_pieces g layout depth claims))
+      (head_pieces (blank_picture g layout.chart) ++ shown_pieces g layout depth claims))
   by-part = plain-part ok tags.Html (worded names.Lang (codes "en") ∷ [])
       (book_ids g depth claims)
-      (head_pieces (blank_picture g) ++ shown_pieces g layout depth claims) refl refl
-      (then-part ok (book_ids g depth claims) (head_pieces (blank_picture g))
-      (shown_pieces g layout depth claims) (head-part ok (blank_picture g)) shown-part)
+      (head_pieces (blank_picture g layout.chart) ++ shown_pieces g layout depth claims) refl refl
+      (then-part ok (book_ids g depth claims) (head_pieces (blank_picture g layout.chart))
+      (shown_pieces g layout depth claims) (head-part ok (blank_picture g layout.chart)) shown-part)
 
-book-part : (g : Game) (c : Cert) (depth : Option ℕ)
+book-part : (chart : Option Chart) (g : Game) (c : Cert) (depth : Option ℕ)
     → IsPart (Contains (book_ids g depth (ordered g depth c).claims))
-    (book_ids g depth (ordered g depth c).claims) (book_pieces g c depth)
-book-part g c depth = by-part g (layout_of g) depth (ordered g depth c).claims
+    (book_ids g depth (ordered g depth c).claims) (book_pieces chart g c depth)
+book-part chart g c depth = by-part g (layout_of chart g) depth (ordered g depth c).claims
 
-pub book-whole : (g : Game) (c : Cert) (depth : Option ℕ) → IsWhole (book_pieces g c depth)
-book-whole g c depth = (book-part g c depth).whole
+pub book-whole : (chart : Option Chart) (g : Game) (c : Cert) (depth : Option ℕ)
+    → IsWhole (book_pieces chart g c depth)
+book-whole chart g c depth = (book-part chart g c depth).whole
 
-pub book-sections : (g : Game) (c : Cert) (depth : Option ℕ)
-    → flat_map section_ids (book_pieces g c depth)
+pub book-sections : (chart : Option Chart) (g : Game) (c : Cert) (depth : Option ℕ)
+    → flat_map section_ids (book_pieces chart g c depth)
     ≡ book_ids g depth (ordered g depth c).claims
-book-sections g c depth = (book-part g c depth).sections
+book-sections chart g c depth = (book-part chart g c depth).sections
 
-pub book-leads : (g : Game) (c : Cert) (depth : Option ℕ)
-    → All (Contains (flat_map section_ids (book_pieces g c depth)))
-    (flat_map targets (book_pieces g c depth))
-book-leads g c depth = subst (λ ids. All (Contains ids) (flat_map targets (book_pieces g c depth)))
-    (sym (book-sections g c depth)) (book-part g c depth).leads
+pub book-leads : (chart : Option Chart) (g : Game) (c : Cert) (depth : Option ℕ)
+    → All (Contains (flat_map section_ids (book_pieces chart g c depth)))
+    (flat_map targets (book_pieces chart g c depth))
+book-leads chart g c depth =
+    subst (λ ids. All (Contains ids) (flat_map targets (book_pieces chart g c depth)))
+    (sym (book-sections chart g c depth)) (book-part chart g c depth).leads

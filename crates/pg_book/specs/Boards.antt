@@ -8,7 +8,8 @@ use Rattle.pg_game.specs.declared.game.Game.{Game}
 use Rattle.pg_gen.specs.Bridge.{bridge_ends, has_bridge}
 use Rattle.pg_gen.specs.declared.limits.TheConstants.{MAX_BRIDGE_ROWS}
 use Rattle.pg_graph.specs.declared.graph.Graph.{Graph as Multigraph}
-use Rattle.pg_scene.specs.Scenes.{line_board}
+use Rattle.pg_layout.specs.declared.chart.Chart.{Chart}
+use Rattle.pg_scene.specs.Scenes.{laid_board}
 use Rattle.pg_scene.specs.declared.board.Board.{Board}
 use Rattle.pg_scene.specs.declared.board.Board.TheVariants.{Graph}
 use Rattle.pg_book_parts.specs.declared.layout.Layout.{Layout}
@@ -38,15 +39,17 @@ rows_of h = rows_below h (suc MAX_BRIDGE_ROWS)
 
 -- ---- boards
 
--- the board of what a game is played on
-abbrev pub board_of : Field → Board
-board_of (fields.Lines f) = line_board f.grid f.points
-board_of (fields.Graph h) = Graph h.vertices h.ends (h.s ∷ h.t ∷ []) (rows_of h)
+-- the board of what a game is played on. The points of a game on lines without a grid are at the
+-- places of a layout that has as many.
+abbrev pub board_of : Option Chart → Field → Board
+board_of chart (fields.Lines f) = laid_board chart f.grid f.points
+board_of chart (fields.Graph h) = Graph h.vertices h.ends (h.s ∷ h.t ∷ []) (rows_of h)
 
--- what moves of a game are named and placed by
-abbrev pub layout_of : Game → Layout
-layout_of g = record {
+-- what moves of a game are named and placed by, with a layout if there is one
+abbrev pub layout_of : Option Chart → Game → Layout
+layout_of chart g = record {
   kind = g.kind;
-  board = board_of g.field;
-  courses = courses_of (board_of g.field);
+  chart = chart;
+  board = board_of chart g.field;
+  courses = courses_of (board_of chart g.field);
 }

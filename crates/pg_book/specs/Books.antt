@@ -15,8 +15,8 @@ use Rattle.pg_cert.specs.declared.cert.Claim.{Claim}
 use Rattle.pg_cert.specs.declared.node.Body.{Body}
 use Rattle.pg_cert.specs.declared.node.Body.TheVariants as bodies
 use Rattle.pg_cert.specs.declared.node.Node.{Node}
-unfoldable use Rattle.pg_draw.specs.Pictures.{picture_of}
 use Rattle.pg_game.specs.declared.game.Game.{Game}
+use Rattle.pg_layout.specs.declared.chart.Chart.{Chart}
 use Rattle.pg_page.specs.Html.{page_text, worded}
 use Rattle.pg_page.specs.declared.attribute.Attribute.{Attribute}
 use Rattle.pg_page.specs.declared.attribute.Name.TheVariants as names
@@ -31,8 +31,8 @@ use Rattle.pg_captions.specs.Words.{side_name}
 use Rattle.pg_book_parts.specs.Chapters.{link_pieces, number_text, page_id, shown}
 use Rattle.pg_book_parts.specs.Elements.{element, labelled, paragraph}
 use Rattle.pg_book_parts.specs.Pictures.{over_pieces, shape_pieces, view_text}
-use Rattle.pg_book.specs.Origins.{origin_of, origin_pieces}
-use Rattle.pg_book.specs.Scenes.{blank_picture, page_look, page_scene}
+use Rattle.pg_book_parts.specs.Origins.{origin_of, origin_pieces}
+use Rattle.pg_book.specs.Scenes.{blank_picture, page_picture}
 use Rattle.pg_book.specs.Boards.{layout_of}
 use Rattle.pg_book.specs.Depths.{depth_pieces, ordered, room_of}
 use Rattle.pg_book.specs.Sentences.{body_pieces}
@@ -123,7 +123,7 @@ page_pieces layout claim chapter page body picture lines = element tags.Section
 abbrev pub section_pieces : Game → Layout → Claim → Chapter → ℕ → Node → List Piece
 section_pieces g layout claim chapter page node =
     page_pieces layout claim chapter page node.body
-    (picture_of page_look (page_scene g claim.side node))
+    (page_picture g layout.chart claim.side node)
     (body_lines g (position_of node) claim.side node.body)
 
 -- the section of a node, if there is one
@@ -272,12 +272,13 @@ html_pieces = pieces.Open tags.Html (worded names.Lang (codes "en") ∷ []) ∷ 
 -- a layout
 abbrev pub book_by : Game → Layout → Option ℕ → Cert → List Piece
 book_by g layout depth c = element tags.Html (worded names.Lang (codes "en") ∷ [])
-    (head_pieces (blank_picture g) ++ shown_pieces g layout depth c.claims)
+    (head_pieces (blank_picture g layout.chart) ++ shown_pieces g layout depth c.claims)
 
--- the page of a certificate, to that depth if there is one
-abbrev pub book_pieces : Game → Cert → Option ℕ → List Piece
-book_pieces g c depth = book_by g (layout_of g) depth (ordered g depth c)
+-- the page of a certificate, with the points at the places of a layout if there is one, and to that
+-- depth if there is one
+abbrev pub book_pieces : Option Chart → Game → Cert → Option ℕ → List Piece
+book_pieces chart g c depth = book_by g (layout_of chart g) depth (ordered g depth c)
 
 -- its text
-abbrev pub book_text : Game → Cert → Option ℕ → Bytes
-book_text g c depth = page_text (book_pieces g c depth)
+abbrev pub book_text : Option Chart → Game → Cert → Option ℕ → Bytes
+book_text chart g c depth = page_text (book_pieces chart g c depth)

@@ -1,7 +1,6 @@
 pub mod Boards
 pub mod Scenes
 pub mod Showing
-pub mod Origins
 pub mod Sentences
 pub mod Depths
 pub mod Books

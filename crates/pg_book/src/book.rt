@@ -16,6 +16,7 @@ use pg_base::Memory;
 use pg_book_parts::{Layout, push_plain};
 use pg_cert::{Cert, Claim};
 use pg_game::Game;
+use pg_layout::Chart;
 use pg_near::arrange;
 use pg_page::{Attributes, Name, Piece, Tag, print_page, push_close, push_open};
 use std::alloc::Global;
@@ -153,7 +154,7 @@ fn push_book(
     ensures { OnOk result
         (pieces.new.items ≡ pieces.old.items ++ book_by g.now layout.now depth cert.now) }
 {
-    let board = draw_board(alloc, g)?;
+    let board = draw_board(alloc, g, layout.chart)?;
     push_html(alloc, pieces)?;
     push_head(alloc, pieces, &board)?;
     push_shown(alloc, pieces, g, layout, cert, depth)?;
@@ -163,6 +164,7 @@ fn push_book(
 /// Returns the text of the book of a certificate whose nodes are in their order.
 fn print_ordered(
     alloc: Global,
+    chart: Option<Chart>,
     game: &Game,
     cert: &Cert,
     depth: Option<u32>,
@@ -170,37 +172,40 @@ fn print_ordered(
     requires claims { length cert.now.claims ≤ MAX_CLAIMS }
     requires nodes { All (λ claim. length claim.nodes ≤ MAX_CLAIM_NODES) cert.now.claims }
     ensures { IfOk result (λ text. string_bytes text
-        ≡ page_text (book_by game.now (layout_of game.now) depth cert.now)) }
+        ≡ page_text (book_by game.now (layout_of chart game.now) depth cert.now)) }
 {
     let mut pieces = Vec::new(alloc);
-    let layout = layout_of(alloc, game)?;
+    let layout = layout_of(alloc, chart, game)?;
     push_book(alloc, &mut pieces, game, &layout, cert, depth)?;
     print_page(alloc, pieces.as_slice())
 }
 
 /// Returns the text of a certificate's book, in HTML: a section for each node of each claim, from
 /// the root on, with its picture, what it says, and links to the nodes that follow. The game is one
-/// on lines or a switching game. With a depth, the book has the nodes alone whose positions have at
-/// most so many more claimed points than the game's start. Claims share `MAX_SECTIONS` sections. A
-/// link to a node that the book doesn't have is the number of its page alone.
+/// on lines or a switching game. With a layout, its points are at the places of that in all
+/// pictures and under all links, if it is on lines without a grid and has as many points. With a
+/// depth, the book has the nodes alone whose positions have at most so many more claimed points
+/// than the game's start. Claims share `MAX_SECTIONS` sections. A link to a node that the book
+/// doesn't have is the number of its page alone.
 ///
 /// # Errors
 ///
 /// `Memory` if no memory is found.
 pub fn print_book(
     alloc: Global,
+    layout: Option<Chart>,
     game: &Game,
     cert: &Cert,
     depth: Option<u32>,
 ) -> Result<String, Memory>
     requires limits { IsWithinLimits cert.now }
-    ensures { IfOk result (λ text. string_bytes text ≡ book_text game.now cert.now depth) }
+    ensures { IfOk result (λ text. string_bytes text ≡ book_text layout game.now cert.now depth) }
 {
     match depth {
-        None => print_ordered(alloc, game, cert, None),
+        None => print_ordered(alloc, layout, game, cert, None),
         Some(moves) => {
             let ordered = arrange(alloc, game, moves, cert)?;
-            print_ordered(alloc, game, &ordered, Some(moves))
+            print_ordered(alloc, layout, game, &ordered, Some(moves))
         }
     }
 }

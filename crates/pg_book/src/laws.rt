@@ -5,6 +5,7 @@ ghost use Rattle.pg_cert.specs.declared.cert.Cert.{Cert};
 ghost use Rattle.pg_cert.specs.declared.cert.Claim.{Claim};
 ghost use Rattle.pg_cert.specs.declared.node.Node.{Node};
 ghost use Rattle.pg_game.specs.declared.game.Game.{Game};
+ghost use Rattle.pg_layout.specs.declared.chart.Chart.{Chart};
 ghost use Rattle.pg_page.specs.Events.{IsWhole};
 ghost use Rattle.pg_book.specs.Books.{book_pieces};
 ghost use Rattle.pg_book.specs.Depths.{is_within, ordered, share_of};
@@ -15,13 +16,14 @@ ghost use Rattle.pg_book_parts.specs.Reading.{section_ids, targets};
 /// The pieces of a book are whole: so in its text each tag that is opened is closed, the last
 /// opened first.
 pub fn books_are_whole()
-    ensures { (g : Game) → (c : Cert) → (depth : Option ℕ) → IsWhole (book_pieces g c depth) }
+    ensures { (chart : Option Chart) → (g : Game) → (c : Cert) → (depth : Option ℕ)
+        → IsWhole (book_pieces chart g c depth) }
 {}
 
 /// The sections of a book are those of its claims' pages, one for each in order, and the legend.
 pub fn nodes_have_sections()
-    ensures { (g : Game) → (c : Cert) → (depth : Option ℕ)
-        → flat_map section_ids (book_pieces g c depth)
+    ensures { (chart : Option Chart) → (g : Game) → (c : Cert) → (depth : Option ℕ)
+        → flat_map section_ids (book_pieces chart g c depth)
         ≡ book_ids g depth (ordered g depth c).claims }
 {}
 
@@ -48,7 +50,7 @@ pub fn first_moves_are_shown()
 
 /// Each link of a book leads to one of its sections.
 pub fn links_lead_to_sections()
-    ensures { (g : Game) → (c : Cert) → (depth : Option ℕ)
-        → All (Contains (flat_map section_ids (book_pieces g c depth)))
-        (flat_map targets (book_pieces g c depth)) }
+    ensures { (chart : Option Chart) → (g : Game) → (c : Cert) → (depth : Option ℕ)
+        → All (Contains (flat_map section_ids (book_pieces chart g c depth)))
+        (flat_map targets (book_pieces chart g c depth)) }
 {}

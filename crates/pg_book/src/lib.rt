@@ -5,7 +5,6 @@
 mod book;
 mod front;
 mod laws;
-mod origins;
 mod scenes;
 mod sections;
 mod sentences;

@@ -18,6 +18,7 @@ use pg_captions::{Legend, Look, Texts, text_of};
 use pg_cert::Cert;
 use pg_draw::draw;
 use pg_game::{Game, Position};
+use pg_layout::Chart;
 use pg_picture::Picture;
 use pg_places::{Courses, Plan};
 use pg_scene::{
@@ -34,10 +35,10 @@ pub(crate) struct Shown {
     pub legend: Texts,
 }
 
-/// What is shown of a node: no lines, which would hide what is under them, and of the legend what
-/// the body says.
-fn page_look() -> Look
-    ensures { result ≡ page_look }
+/// What is shown of a node: no lines, which would hide what is under them, of the legend what the
+/// body says, and the points at the places of a layout.
+fn page_look(chart: Option<Chart>) -> Look
+    ensures { result ≡ page_look chart }
 {
     Look {
         numbers: true,
@@ -45,7 +46,7 @@ fn page_look() -> Look
         legend: Legend::OfBody,
         size: None,
         blank: None,
-        layout: None,
+        layout: chart,
     }
 }
 
@@ -71,24 +72,25 @@ fn courses_of(alloc: Global, board: &Board) -> Result<Courses, Memory>
     }
 }
 
-/// What moves of a game are named and placed by.
-pub(crate) fn layout_of(alloc: Global, g: &Game) -> Result<Layout, Memory>
-    ensures { IfOk result (λ layout. layout ≡ layout_of g.now) }
+/// What moves of a game are named and placed by, with a layout if there is one.
+pub(crate) fn layout_of(alloc: Global, chart: Option<Chart>, g: &Game) -> Result<Layout, Memory>
+    ensures { IfOk result (λ layout. layout ≡ layout_of chart g.now) }
 {
     scenes_can_be_laid_out();
-    let Scene { board, .. } = scene_of_game(alloc, g, page_look())?;
+    let Scene { board, .. } = scene_of_game(alloc, g, page_look(chart))?;
     let courses = courses_of(alloc, &board)?;
     Ok(Layout {
         kind: g.kind,
+        chart,
         board,
         courses,
     })
 }
 
 /// The picture of a board on which these items are to be seen.
-fn draw_items(alloc: Global, board: Board, items: Items) -> Result<Picture, Memory>
+fn draw_items(alloc: Global, look: Look, board: Board, items: Items) -> Result<Picture, Memory>
     requires { IsBoard board }
-    ensures { IfOk result (λ picture. picture ≡ picture_of page_look (scene_by board items)) }
+    ensures { IfOk result (λ picture. picture ≡ picture_of look (scene_by board items)) }
 {
     let scene = Scene {
         title: text_of(alloc, "")?,
@@ -96,7 +98,7 @@ fn draw_items(alloc: Global, board: Board, items: Items) -> Result<Picture, Memo
         items,
         legend: Texts::from_vec(Vec::new(alloc)),
     };
-    draw(alloc, &scene, page_look())
+    draw(alloc, &scene, look)
 }
 
 /// The points of a game without marks.
@@ -115,13 +117,14 @@ fn blank_items(alloc: Global, g: &Game) -> Result<Items, Memory>
 }
 
 /// The picture of a game's board without marks.
-pub(crate) fn draw_board(alloc: Global, g: &Game) -> Result<Picture, Memory>
-    ensures { IfOk result (λ picture. picture ≡ blank_picture g.now) }
+pub(crate) fn draw_board(alloc: Global, g: &Game, chart: Option<Chart>) -> Result<Picture, Memory>
+    ensures { IfOk result (λ picture. picture ≡ blank_picture g.now chart) }
 {
     scenes_can_be_laid_out();
-    let Scene { board, .. } = scene_of_game(alloc, g, page_look())?;
+    let look = page_look(chart);
+    let Scene { board, .. } = scene_of_game(alloc, g, look)?;
     let items = blank_items(alloc, g)?;
-    draw_items(alloc, board, items)
+    draw_items(alloc, look, board, items)
 }
 
 /// Adds an item.
@@ -207,11 +210,10 @@ fn kept_items(alloc: Global, items: &[Item]) -> Result<Vec<Item>, Memory>
 }
 
 /// What a page shows of a node.
-fn show(alloc: Global, scene: Scene) -> Result<Shown, Memory>
+fn show(alloc: Global, look: Look, scene: Scene) -> Result<Shown, Memory>
     requires { IsBoard scene.board }
     ensures { IfOk result (λ shown.
-        (shown.picture
-        ≡ picture_of page_look (scene_by scene.board (flat_map kept scene.items)))
+        (shown.picture ≡ picture_of look (scene_by scene.board (flat_map kept scene.items)))
         × (shown.legend ≡ scene.legend)) }
 {
     let Scene {
@@ -221,7 +223,7 @@ fn show(alloc: Global, scene: Scene) -> Result<Shown, Memory>
         ..
     } = scene;
     let seen = Items::from_vec(kept_items(alloc, items.as_slice())?);
-    let picture = draw_items(alloc, board, seen)?;
+    let picture = draw_items(alloc, look, board, seen)?;
     Ok(Shown { picture, legend })
 }
 
@@ -230,17 +232,19 @@ fn show(alloc: Global, scene: Scene) -> Result<Shown, Memory>
 pub(crate) fn show_node(
     alloc: Global,
     g: &Game,
+    chart: Option<Chart>,
     cert: &Cert,
     page: Page,
     node: u32,
 ) -> Result<Option<Shown>, Memory>
     ensures { IfOk result (λ found. (claim : Claim) → (part : Node)
         → AreNamed cert.now page.chapter.claim node claim part
-        → IsShownOf g.now claim.side part found) }
+        → IsShownOf g.now chart claim.side part found) }
 {
     scenes_can_be_laid_out();
-    match scene_of_node(alloc, g, cert, page.chapter.claim, node, None, page_look())? {
-        Some(scene) => Ok(Some(show(alloc, scene)?)),
+    let look = page_look(chart);
+    match scene_of_node(alloc, g, cert, page.chapter.claim, node, None, look)? {
+        Some(scene) => Ok(Some(show(alloc, look, scene)?)),
         None => Ok(None),
     }
 }

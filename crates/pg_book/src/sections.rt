@@ -8,13 +8,12 @@ ghost use Rattle.pg_book.specs.Books.{reset_pieces, section_at, sections_pieces,
 ghost use Rattle.pg_book_parts.specs.Pictures.{over_pieces};
 
 use crate::front::LEGEND;
-use crate::origins::push_origin;
 use crate::scenes::{Shown, show_node};
 use crate::sentences::push_body;
 use pg_base::{Memory, Side};
 use pg_book_parts::{
-    Chapter, Layout, Page, number_after, page_id, push_labelled, push_link, push_over, push_plain,
-    push_shapes, view_of,
+    Chapter, Layout, Page, number_after, page_id, push_labelled, push_link, push_origin, push_over,
+    push_plain, push_shapes, view_of,
 };
 use pg_captions::Text;
 use pg_cert::{Body, Cert, Claim};
@@ -209,7 +208,7 @@ fn push_section(
     let number = page.chapter.count - page.number;
     let nodes = claim.nodes.as_slice();
     let node = &nodes[number as usize];
-    let Some(shown) = show_node(alloc, g, cert, page, number)? else {
+    let Some(shown) = show_node(alloc, g, layout.chart, cert, page, number)? else {
         unreachable!();
     };
     push_page(alloc, pieces, layout, claim, page, &node.body, &shown)

@@ -1,3 +1,4 @@
 pub mod Steps
+pub mod Before
 pub mod Parts
 pub mod Shown

@@ -26,6 +26,7 @@ use Rattle.pg_book_parts.specs.Chapters.{has_page, link_by, link_pieces, number_
 use Rattle.pg_book_parts.specs.Chapters.{page_of}
 use Rattle.pg_book_parts.specs.Elements.{paragraph}
 use Rattle.pg_book_parts.specs.Layouts.{place_at}
+use Rattle.pg_book_parts.specs.Origins.{origin_lead, origin_pieces}
 use Rattle.pg_book_parts.specs.Pictures.{around_pieces, button_pieces, choice_pieces}
 use Rattle.pg_book_parts.specs.Pictures.{chosen_pieces, circle_pieces, group_text, input_pieces}
 use Rattle.pg_book_parts.specs.Pictures.{letter_pieces, mark_pieces, over_pieces, painted, pair_by}
@@ -36,10 +37,12 @@ use Rattle.pg_book_parts.specs.Words.{act_words}
 use Rattle.pg_book_parts.specs.declared.chapter.Chapter.{Chapter}
 use Rattle.pg_book_parts.specs.declared.chapter.TheConstants.{MISSING}
 use Rattle.pg_book_parts.specs.declared.layout.Layout.{Layout}
+use Rattle.pg_book_parts.specs.declared.origins.Origin.{Origin}
 use Rattle.pg_book_parts.specs.declared.over.TheConstants.{EDGE_RADIUS, MARK_RADIUS, RING_RADIUS}
 use Rattle.pg_book_parts.specs.declared.over.TheConstants.{SQUARE_HALF, SQUARE_SIDE}
 use Rattle.pg_book_parts.proofs.Parts.{each-part, element-part, IsPart, label-part, leads-one}
-use Rattle.pg_book_parts.proofs.Parts.{lone-part, no-part, plain-part, then-part, words-part}
+use Rattle.pg_book_parts.proofs.Parts.{lone-part, no-part, plain-part, said-part, then-part}
+use Rattle.pg_book_parts.proofs.Parts.{words-part}
 
 -- ---- pictures
 
@@ -156,6 +159,15 @@ module _ (ok : Bytes → Type 0) (chapter : Chapter)
 
   pub link-part : (node : ℕ) → IsPart ok [] (link_pieces chapter node)
   link-part node = link-by node (has_page chapter node) refl
+
+  pub origin-part : (layout : Layout) (found : Option Origin)
+      → IsPart ok [] (origin_pieces layout chapter found)
+  origin-part layout None = no-part ok
+  origin-part layout (Some origin) =
+      let link = link_pieces chapter origin.node in
+      plain-part ok tags.P (worded names.Class (codes "from") ∷ []) []
+      (pieces.Words (origin_lead layout origin) ∷ link) refl refl
+      (said-part ok [] (origin_lead layout origin) link (link-part origin.node))
 
   ring-by : (layout : Layout) (v child : ℕ) (b : Bool)
       → has_page chapter child ≡ b

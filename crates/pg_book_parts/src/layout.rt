@@ -3,6 +3,7 @@ ghost use Rattle.std.specs.Prelude.{◌≡◌};
 ghost use Rattle.pg_book_parts.specs.Layouts.{place_at};
 
 use pg_base::Kind;
+use pg_layout::Chart;
 use pg_picture::Place;
 use pg_places::{Courses, place_on_chart, place_on_grid, place_on_ring};
 use pg_scene::Board;
@@ -12,6 +13,8 @@ use pg_scene::Board;
 pub struct Layout {
     /// The kind of the game, by which its sides are named.
     pub kind: Kind,
+    /// The places of a layout for its points, if one is given.
+    pub chart: Option<Chart>,
     /// What its points are drawn as.
     pub board: Board,
     /// How its edges run, if its points are edges.

@@ -29,7 +29,11 @@ fn files_of<'a>(asked: &Asked<'a>) -> (&'a str, &'a str, &'a str) {
             style.layout.unwrap_or(order.game),
             order.record,
         ),
-        Asked::Book(order) => (order.game, order.game, order.certificate),
+        Asked::Book(order, style) => (
+            order.game,
+            style.layout.unwrap_or(order.game),
+            order.certificate,
+        ),
     }
 }
 

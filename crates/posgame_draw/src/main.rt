@@ -62,7 +62,7 @@ fn draw_names(rt: &HostRuntime, names: &[String], look: Look) -> u8 {
     draw(rt.alloc(), names, look, &mut files, &mut console)
 }
 
-/// Returns what the picture of a game shows, with its layout if one is asked for; or the status of
+/// Returns what the pictures of a game show, with its layout if one is asked for; or the status of
 /// the run if there is none, which is said.
 fn look_with_layout(rt: &HostRuntime, game: &str, style: Style<'_>) -> Result<Look, u8> {
     let Some(layout) = style.layout else {
@@ -104,11 +104,17 @@ fn draw_recorded(rt: &HostRuntime, order: RecordOrder<'_>, style: Style<'_>) -> 
     draw_record(rt.alloc(), order, look, &mut files, &mut console)
 }
 
-/// Prints a book, and returns the status.
-fn print_book(rt: &HostRuntime, order: BookOrder<'_>) -> u8 {
+/// Prints a book, with its layout if one is asked for, and returns the status.
+fn print_book(rt: &HostRuntime, order: BookOrder<'_>, style: Style<'_>) -> u8 {
+    let look = match look_with_layout(rt, order.game, style) {
+        Ok(look) => look,
+        Err(status) => return status,
+    };
+    let mut laid = order;
+    laid.layout = look.layout;
     let mut files = HostFiles::new(rt);
     let mut console = HostConsole::new(rt);
-    bind(rt.alloc(), order, &mut files, &mut console)
+    bind(rt.alloc(), laid, &mut files, &mut console)
 }
 
 /// Prints what the words ask for, and returns the status. Words that `clap` refuses have no
@@ -117,7 +123,7 @@ fn run(rt: &HostRuntime, answer: &Result<Asked<'_>, Error>) -> u8 {
     match answer {
         Ok(Asked::Picture(order)) => draw_picture(rt, order),
         Ok(Asked::Recorded(order, style)) => draw_recorded(rt, *order, *style),
-        Ok(Asked::Book(order)) => print_book(rt, *order),
+        Ok(Asked::Book(order, style)) => print_book(rt, *order, *style),
         Err(_) => draw_names(rt, &[], Look::whole()),
     }
 }

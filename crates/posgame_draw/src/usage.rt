@@ -52,10 +52,10 @@ const MAX_DEPTH: u32 = 1000;
 /// The greatest width of a picture, in pixels.
 const MAX_SIZE: u32 = 10_000;
 
-/// How a picture is to be drawn.
+/// How a picture, or those of a book, are to be drawn.
 #[derive(Clone, Copy, Debug)]
 pub(crate) struct Style<'a> {
-    /// What it shows, but for a layout.
+    /// What a picture shows, but for a layout.
     pub(crate) look: Look,
     /// The name of the layout's file, if there is one.
     pub(crate) layout: Option<&'a str>,
@@ -81,8 +81,8 @@ pub(crate) enum Asked<'a> {
     Picture(PictureOrder<'a>),
     /// A picture of a recorded game.
     Recorded(RecordOrder<'a>, Style<'a>),
-    /// A book.
-    Book(BookOrder<'a>),
+    /// A book, and of the style its layout.
+    Book(BookOrder<'a>, Style<'a>),
 }
 
 /// Adds an option that a picture is to be without something.
@@ -135,11 +135,10 @@ fn with_blank<'a>(alloc: Global, command: Command<'a>) -> Result<Command<'a>, Al
 /// Adds the option for the layout of a game.
 fn with_layout<'a>(alloc: Global, command: Command<'a>) -> Result<Command<'a>, AllocError> {
     let layout = Arg::new(alloc, LAYOUT).long(LAYOUT).value_name("FILE");
-    let layout = layout.conflicts_with(BOOK)?;
     command.arg(layout.help("Draw the points of a game without a grid at the places in FILE"))
 }
 
-/// Adds the options for pictures.
+/// Adds the options for pictures; that for a layout is for books too.
 fn with_looks<'a>(alloc: Global, command: Command<'a>) -> Result<Command<'a>, AllocError> {
     let command = with_moves(alloc, command)?;
     let help = "Draw points and vertices without numbers";
@@ -245,11 +244,13 @@ pub(crate) fn read_words<'a>(alloc: Global, words: &'a [String]) -> Result<Asked
     let game = found.get_str("GAME").unwrap_or("");
     let certificate = found.get_str("CERT");
     if found.get_flag(BOOK) {
-        return Ok(Asked::Book(BookOrder {
+        let order = BookOrder {
             game,
             certificate: certificate.unwrap_or(""),
+            layout: None,
             depth: found.get_one::<u32>(DEPTH),
-        }));
+        };
+        return Ok(Asked::Book(order, style_of(&found)));
     }
     if let Some(order) = recorded_in(&found) {
         return Ok(Asked::Recorded(order, style_of(&found)));

@@ -11,8 +11,8 @@ pub returns-in_err-evidence-clause-found : goal.returns-in_err-evidence-clause-f
 returns-in_err-evidence-clause-found g c =
     let p = err_from_is_err_and c.from_residual.result c.from_residual.ensures.1 in
     rw (p.1, p.2)
-    (unopened_due c.args.depth evidence_held (game_pair (entry c.args.game.now)) (λ halt. refl)
-    (g.F.Files.told c.args.files.now).held c.args.certificate.now _
+    (unopened_due c.args.layout c.args.depth evidence_held (game_pair (entry c.args.game.now))
+    (λ halt. refl) (g.F.Files.told c.args.files.now).held c.args.certificate.now _
     c.in_err-evidence.ensures.opened)
 
 pub returns-in_err-evidence-clause-causes : goal.returns-in_err-evidence-clause-causes
@@ -24,10 +24,11 @@ returns-in_err-evidence-clause-causes g c =
     c.args.game.now) _ _ _ c.in_err-evidence.ensures.causes)
 
 pub returns-clause-found : goal.returns-clause-found
-returns-clause-found g c =
-    opened_due c.args.depth evidence_held (game_pair (entry c.args.game.now)) (λ halt. refl)
+returns-clause-found g c = opened_due c.args.layout c.args.depth evidence_held
+    (game_pair (entry c.args.game.now)) (λ halt. refl)
     (g.F.Files.told c.args.files.now).held c.args.certificate.now c.in_ok-evidence.evidence
-    (IsEvidenceDue c.args.game.now c.in_ok-evidence.evidence c.args.depth) (λ text status is. (
+    (IsEvidenceDue c.args.game.now c.in_ok-evidence.evidence c.args.layout c.args.depth)
+    (λ text status is. (
       c.args.game.now,
       refl,
       is,

@@ -8,12 +8,12 @@ use Rattle.pg_binding.specs.Due.{IsSpanDue}
 use Rattle.pg_binding.proofs.opening.tell_on_span.Goals as goal
 
 pub returns-in_err-cert-clause-found : goal.returns-in_err-cert-clause-found
-returns-in_err-cert-clause-found g c = λ depth.
+returns-in_err-cert-clause-found g c = λ layout depth.
     let p = err_from_is_err_and c.from_residual.result c.from_residual.ensures.1 in
     rw (p.1, p.2)
-    (unopened_due depth span_cert_held (span_pair (span_entry c.args.game.now)) (λ halt. refl)
-    (g.F.Files.told c.args.files.now).held c.args.certificate.now _
-    c.in_err-cert.ensures.opened)
+    (unopened_due layout depth span_cert_held (span_pair (span_entry c.args.game.now))
+    (λ halt. refl)
+    (g.F.Files.told c.args.files.now).held c.args.certificate.now _ c.in_err-cert.ensures.opened)
 
 pub returns-in_err-cert-clause-causes : goal.returns-in_err-cert-clause-causes
 returns-in_err-cert-clause-causes g c =
@@ -25,8 +25,8 @@ returns-in_err-cert-clause-causes g c =
 
 pub returns-clause-found : goal.returns-clause-found
 returns-clause-found g c =
-    λ depth. opened_due depth span_cert_held (span_pair (span_entry c.args.game.now)) (λ halt. refl)
-    (g.F.Files.told c.args.files.now).held c.args.certificate.now c.in_ok-cert.cert
+    λ layout depth. opened_due layout depth span_cert_held (span_pair (span_entry c.args.game.now))
+    (λ halt. refl) (g.F.Files.told c.args.files.now).held c.args.certificate.now c.in_ok-cert.cert
     (IsSpanDue c.args.game.now c.in_ok-cert.cert) (λ text status is. (c.args.game.now, refl, is))
     c.in_ok-cert.ensures.opened c.tell_span.result c.tell_span.ensures.found
 

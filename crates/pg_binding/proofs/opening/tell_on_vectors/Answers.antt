@@ -8,12 +8,12 @@ use Rattle.pg_binding.specs.Due.{AreVectorsDue}
 use Rattle.pg_binding.proofs.opening.tell_on_vectors.Goals as goal
 
 pub returns-in_err-cert-clause-found : goal.returns-in_err-cert-clause-found
-returns-in_err-cert-clause-found g c = λ depth.
+returns-in_err-cert-clause-found g c = λ layout depth.
     let p = err_from_is_err_and c.from_residual.result c.from_residual.ensures.1 in
     rw (p.1, p.2)
-    (unopened_due depth certificate_held (vector_pair (vector_entry c.args.game.now)) (λ halt. refl)
-    (g.F.Files.told c.args.files.now).held c.args.certificate.now _
-    c.in_err-cert.ensures.opened)
+    (unopened_due layout depth certificate_held (vector_pair (vector_entry c.args.game.now))
+    (λ halt. refl)
+    (g.F.Files.told c.args.files.now).held c.args.certificate.now _ c.in_err-cert.ensures.opened)
 
 pub returns-in_err-cert-clause-causes : goal.returns-in_err-cert-clause-causes
 returns-in_err-cert-clause-causes g c =
@@ -24,9 +24,9 @@ returns-in_err-cert-clause-causes g c =
     c.args.game.now) _ _ _ c.in_err-cert.ensures.causes)
 
 pub returns-clause-found : goal.returns-clause-found
-returns-clause-found g c =
-    λ depth. opened_due depth certificate_held (vector_pair (vector_entry c.args.game.now))
-    (λ halt. refl) (g.F.Files.told c.args.files.now).held c.args.certificate.now c.in_ok-cert.cert
+returns-clause-found g c = λ layout depth. opened_due layout depth certificate_held
+    (vector_pair (vector_entry c.args.game.now)) (λ halt. refl)
+    (g.F.Files.told c.args.files.now).held c.args.certificate.now c.in_ok-cert.cert
     (AreVectorsDue c.args.game.now c.in_ok-cert.cert) (λ text status is. (
       c.args.game.now,
       refl,

@@ -9,7 +9,7 @@ pub returns-in-Some : goal.returns-in-Some
 returns-in-Some c =
     let g = c.args.checked.game.now in
     let cert = c.args.checked.cert.now in
-    book_shown g cert c.in-Some.tree c.args.depth c.whole_book.result
+    book_shown g cert c.in-Some.tree c.args.layout c.args.depth c.whole_book.result
     (tree_shown g cert c.in-Some.tree c.play_tree.result
     (c.in_ok-tree.was ∙ ap Ok c.in-Some.is) c.play_tree.ensures.no_sets
     (rw c.in-Some.is at c.in_ok-tree.ensures.tree)
@@ -20,5 +20,5 @@ returns-in-Some c =
 pub returns-in-None : goal.returns-in-None
 returns-in-None c =
     let cert = c.args.checked.cert.now in
-    book_shown c.args.checked.game.now cert cert c.args.depth c.whole_book-in-None.result (inl refl)
-    c.whole_book-in-None.ensures
+    book_shown c.args.checked.game.now cert cert c.args.layout c.args.depth
+    c.whole_book-in-None.result (inl refl) c.whole_book-in-None.ensures

@@ -20,20 +20,20 @@ print_ordered-requires-in-Some-clause-nodes c =
 
 pub returns-in-None : goal.returns-in-None
 returns-in-None c = IfOk-weaker c.print_ordered.result
+    (λ text. string_bytes text ≡ page_text
+    (book_by c.args.game.now (layout_of c.args.layout c.args.game.now) None c.args.cert.now))
     (λ text. string_bytes text
-    ≡ page_text (book_by c.args.game.now (layout_of c.args.game.now) None c.args.cert.now))
-    (λ text. string_bytes text ≡ book_text c.args.game.now c.args.cert.now c.args.depth)
-    (λ text is. is ∙ ap (book_text c.args.game.now c.args.cert.now) (sym c.in-None.is))
-    c.print_ordered.ensures
+    ≡ book_text c.args.layout c.args.game.now c.args.cert.now c.args.depth)
+    (λ text is. is ∙ ap (book_text c.args.layout c.args.game.now c.args.cert.now)
+    (sym c.in-None.is)) c.print_ordered.ensures
 
 pub returns-in_ok-ordered-in-Some : goal.returns-in_ok-ordered-in-Some
-returns-in_ok-ordered-in-Some c = IfOk-weaker c.print_ordered-in-Some.result
-    (λ text. string_bytes text
-    ≡ page_text (book_by c.args.game.now (layout_of c.args.game.now) (Some c.in-Some.moves)
-    c.in_ok-ordered-in-Some.ordered))
-    (λ text. string_bytes text ≡ book_text c.args.game.now c.args.cert.now c.args.depth)
+returns-in_ok-ordered-in-Some c = IfOk-weaker c.print_ordered-in-Some.result (λ text.
+    string_bytes text ≡ page_text (book_by c.args.game.now (layout_of c.args.layout c.args.game.now)
+    (Some c.in-Some.moves) c.in_ok-ordered-in-Some.ordered)) (λ text.
+    string_bytes text ≡ book_text c.args.layout c.args.game.now c.args.cert.now c.args.depth)
     (λ text is. is
-    ∙ ap (λ o. page_text (book_by c.args.game.now (layout_of c.args.game.now)
+    ∙ ap (λ o. page_text (book_by c.args.game.now (layout_of c.args.layout c.args.game.now)
     (Some c.in-Some.moves) o)) c.in_ok-ordered-in-Some.ensures
-    ∙ ap (book_text c.args.game.now c.args.cert.now) (sym c.in-Some.is))
+    ∙ ap (book_text c.args.layout c.args.game.now c.args.cert.now) (sym c.in-Some.is))
     c.print_ordered-in-Some.ensures

@@ -8,7 +8,8 @@ use Rattle.pg_book.proofs.book.print_ordered.Goals as goal
 pub returns : goal.returns
 returns c =
     let made : c.as_slice.result.now
-    ≡ book_by c.args.game.now (layout_of c.args.game.now) c.args.depth c.args.cert.now =
+    ≡ book_by c.args.game.now (layout_of c.args.chart c.args.game.now) c.args.depth
+    c.args.cert.now =
     c.as_slice.ensures.value
     ∙ c.in_ok-push_book.ensures
     ∙ ap (λ xs. xs ++ book_by c.args.game.now c.in_ok-layout.layout c.args.depth c.args.cert.now)
@@ -17,6 +18,6 @@ returns c =
     c.in_ok-layout.ensures in
     IfOk-weaker c.print_page.result (λ text. string_bytes text ≡ page_text c.as_slice.result.now)
     (λ text. string_bytes text
-    ≡ page_text (book_by c.args.game.now (layout_of c.args.game.now) c.args.depth
+    ≡ page_text (book_by c.args.game.now (layout_of c.args.chart c.args.game.now) c.args.depth
     c.args.cert.now))
     (λ text is. is ∙ ap page_text made) c.print_page.ensures

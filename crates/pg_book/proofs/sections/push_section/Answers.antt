@@ -19,7 +19,8 @@ unreachable-requires c =
     c.index-nodes-number.result =
     record { claim_at = c.requires.named; node_at = at } in
     let is = c.in_ok-shown.ensures c.args.claim.now c.index-nodes-number.result named in
-    shown-some c.args.g.now c.args.claim.now c.index-nodes-number.result _ is c.in_default.is
+    shown-some c.args.layout.now.chart c.args.g.now c.args.claim.now c.index-nodes-number.result _
+    is c.in_default.is
 
 pub returns : goal.returns
 returns c =

@@ -1,6 +1,6 @@
 use Rattle.std.proofs.Common.{◌≡◌, ◌∙◌, suc, ◌+◌, ◌-◌, sym, arith}
-use Rattle.pg_book.proofs.Before.{origin-here, origin-later, origin-none}
-use Rattle.pg_book.proofs.origins.origin_of.Goals as goal
+use Rattle.pg_book_parts.proofs.Before.{origin-here, origin-later, origin-none}
+use Rattle.pg_book_parts.proofs.origins.origin_of.Goals as goal
 
 pub loop-number-preserved : goal.loop-number-preserved
 loop-number-preserved c =

@@ -2,9 +2,9 @@
 use Rattle.std.proofs.Common.{◌≡◌, ◌∙◌, ℕ, suc, ◌+◌}
 use Rattle.std.proofs.Common.{Some, None, ap}
 use Rattle.pg_cert.specs.declared.cert.Claim.{Claim}
-use Rattle.pg_book.specs.Origins.{first_of, origin_at}
-unfoldable use Rattle.pg_book.specs.Origins.{origin_from}
-use Rattle.pg_book.specs.declared.origins.Origin.{Origin}
+use Rattle.pg_book_parts.specs.Origins.{first_of, origin_at}
+unfoldable use Rattle.pg_book_parts.specs.Origins.{origin_from}
+use Rattle.pg_book_parts.specs.declared.origins.Origin.{Origin}
 
 -- ---- pages
 

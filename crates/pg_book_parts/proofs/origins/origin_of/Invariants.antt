@@ -1,6 +1,6 @@
 use Rattle.std.proofs.Common.{◌≡◌, ◌-◌}
-use Rattle.pg_book.specs.Origins.{origin_from, origin_of}
-use Rattle.pg_book.proofs.origins.origin_of.Given as goal
+use Rattle.pg_book_parts.specs.Origins.{origin_from, origin_of}
+use Rattle.pg_book_parts.proofs.origins.origin_of.Given as goal
 
 abbrev pub invariant-loop-number : goal.invariant-loop-number
 invariant-loop-number l = origin_of l.claim l.fn.page.chapter l.fn.page.number

@@ -1,10 +1,12 @@
 //! How positions come about: the page before, and what is done there.
 ghost use Rattle.std.specs.Prelude.{◌≡◌, ◌≤◌, ◌++◌, IfOk, OnOk};
-ghost use Rattle.pg_book.specs.Origins.{origin_at, origin_if, origin_in, origin_lead, origin_of};
-ghost use Rattle.pg_book.specs.Origins.{origin_pieces, reply_origin};
+ghost use Rattle.pg_book_parts.specs.Origins.{origin_at, origin_if, origin_in, origin_lead};
+ghost use Rattle.pg_book_parts.specs.Origins.{origin_of, origin_pieces, reply_origin};
 
+use crate::chapter::{Page, push_link};
+use crate::layout::Layout;
+use crate::words::act_words;
 use pg_base::{Memory, Side};
-use pg_book_parts::{Layout, Page, act_words, push_link};
 use pg_cert::{Body, Claim, Reply};
 use pg_page::{Attributes, Name, Piece, Tag, push_close, push_words};
 use pg_picture::Text;
@@ -12,7 +14,7 @@ use std::alloc::Global;
 
 /// What leads to a position.
 #[derive(Clone, Copy, Debug, PartialEq, Eq)]
-pub(crate) struct Origin {
+pub struct Origin {
     /// The node before it.
     pub node: u32,
     /// The side that moves there.
@@ -103,8 +105,9 @@ fn origin_lead(alloc: Global, layout: &Layout, origin: Origin) -> Result<Text, M
     Ok(Text::from_string(words))
 }
 
-/// Adds what leads to the node of a page, with a link to the page before, if there is one.
-pub(crate) fn push_origin(
+/// Adds what leads to the node of a page, with a link to the page before, if there is one. An error
+/// means that memory ran out.
+pub fn push_origin(
     alloc: Global,
     pieces: &mut Vec<Piece>,
     layout: &Layout,

@@ -20,7 +20,7 @@ use Rattle.pg_book_parts.specs.Elements.{element}
 use Rattle.pg_book_parts.specs.Words.{act_words}
 use Rattle.pg_book_parts.specs.declared.chapter.Chapter.{Chapter}
 use Rattle.pg_book_parts.specs.declared.layout.Layout.{Layout}
-use Rattle.pg_book.specs.declared.origins.Origin.{Origin}
+use Rattle.pg_book_parts.specs.declared.origins.Origin.{Origin}
 
 -- ---- what leads to a node
 
