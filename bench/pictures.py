@@ -1,18 +1,21 @@
 #!/usr/bin/env python3
 """Writes docs/pictures from examples/, reads each picture with a parser of XML, and measures the
-largest ones. Arguments of bench/pictures.txt for which nothing is drawn must be refused. PROGRAM is
-posgame_draw. Unproved.
+largest ones. Arguments of bench/pictures.txt for which nothing is drawn must be refused. In
+complete graphs, which may have no more edges than a game has points, no two edges may have their
+numbers at one place. PROGRAM is posgame_draw. Unproved.
 
     bench/pictures.py [PROGRAM] [--out FOLDER]
 """
 from __future__ import annotations
 
+import itertools
 import pathlib
 import re
 import xml.etree.ElementTree as ElementTree
 
 import kit
 
+NUMBER = re.compile(r'<text class="number" x="(\d+)" y="(\d+)"')
 ROW = re.compile(r"(.*?): ?(.*?)(?: ?!(\d+))?$")
 BYTES = 2_000_000
 SPACE = "{http://www.w3.org/2000/svg}"
@@ -20,7 +23,8 @@ TAGS = {"title", "style", "rect", "circle", "line", "path", "text", "g"}
 # Attributes that are places across, and down.
 ENDS = {"x": 0, "cx": 0, "x1": 0, "x2": 0, "y": 1, "cy": 1, "y1": 1, "y2": 1}
 LARGE = ["lines.game", "ring.game", "lines.game lines.cert", "ring.game lines.cert", "graph.game",
-         "graph.game graph.cert", "span.game", "span.game trees.cert", "span.game parts.cert"]
+         "graph.game graph.cert", "span.game", "span.game trees.cert", "span.game parts.cert",
+         "vectors.game", "vectors.game sets.cert"]
 
 
 def faults_of(text: str) -> list[str]:
@@ -41,13 +45,16 @@ def faults_of(text: str) -> list[str]:
 
 
 def large_files() -> dict[str, str]:
-    """The largest boards, 20,000 lines in a grid and in a ring, with pairs of all points; and a
-    path of doubled edges with two trees and, for its connectivity game, parts that are faulty."""
+    """The largest boards, 20,000 lines in a grid and in a ring, with pairs of all points; a path of
+    doubled edges with two trees and, for its connectivity game, parts that are faulty; and 1,000
+    vectors of 128 entries in two faulty sets."""
     lines = kit.line_rows(sorted({(k * (k + 3) // 2 + 13 * i) % 256 for i in range(20)})
                           for k in range(20_000))
     pairs = kit.field(f"{v}-{v + 1}" for v in range(0, 256, 2))
     graph = kit.doubled_path(500, 1000)
     trees = f"trees {kit.field(range(499))} / {kit.field(range(499, 998))}\n"
+    vectors = [f"vector {k:0128b}" for k in range(1, 1001)]
+    sets = f"trees {kit.field(range(500))} / {kit.field(range(500, 1000))}\n"
     return {
         "lines.game": kit.game("maker-breaker", "grid 16 16", *lines),
         "ring.game": kit.game("maker-breaker", "points 256", *lines),
@@ -57,6 +64,9 @@ def large_files() -> dict[str, str]:
         "span.game": kit.span(graph, "y"),
         "trees.cert": f"posgame-span-cert 1\nclaim y x\n{trees}",
         "parts.cert": f"posgame-span-cert 1\nclaim y y\nparts {kit.field(range(500))}\n",
+        "vectors.game": "\n".join(["posgame-vectors 1", "rows 128", f"target {'1' * 128}", *vectors,
+                                   "turn y", ""]),
+        "sets.cert": kit.certificate(kit.claim("y x win", f"||y|{sets}")),
     }
 
 
@@ -75,6 +85,27 @@ def refused(program: str, words: str, text: str, status: str) -> list[str]:
     return [] if found == (text, int(status)) else [f"{words or 'no words'}: {found!r:.80}"]
 
 
+def complete(count: int, parallels: int) -> list[tuple[int, int]]:
+    """The edges between any two of so many vertices, so many between the same two."""
+    return [ends for ends in itertools.combinations(range(count), 2) for _ in range(parallels)]
+
+
+def covered(program: str) -> list[str]:
+    """Draws complete graphs; returns in which of them two edges have their numbers at one place, or
+    where none is drawn."""
+    shapes = [(count, 1) for count in range(3, 46)] + [(count, 3) for count in range(2, 13)]
+    faults = []
+    for count, parallels in shapes:
+        edges = complete(count, parallels)
+        game = kit.switching((count, edges), (0, 1), "x")
+        with kit.files(**{"complete.game": game}) as folder:
+            text = kit.run(program, "complete.game", folder=folder).output
+        places = NUMBER.findall(text)[:len(edges)]
+        if len(set(places)) < len(edges):
+            faults.append(f"{count} vertices, {parallels} parallels: {len(set(places))} places")
+    return faults
+
+
 def main() -> int:
     out = kit.TOP / "docs" / "pictures", "the folder of the pictures"
     given = kit.options(__doc__, "posgame_draw", out=out)
@@ -85,7 +116,7 @@ def main() -> int:
     print(f"{len(drawn)} pictures of examples and {len(others)} refusals: "
           f"{sum(map(bool, wrong))} not as expected\n")
     table = kit.Table("picture", ("bytes", ",", BYTES), ("s", ".3f", 0.1), "status")
-    table.wrong += sum(wrong, [])
+    table.wrong += sum(wrong, []) + covered(given.program)
     with kit.files(**large_files()) as folder:
         for row in LARGE:
             done = kit.quickest(5, given.program, *row.split(), folder=folder)

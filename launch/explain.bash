@@ -348,7 +348,7 @@ ask_again() {
     [[ $STATUS == 3 ]] || is_rereadable "$file" || return
     case $COMMAND:$STATUS in
         draw:3 | book:3 | table:3 | duel:3) words=("$GAME") ;;
-        draw:4 | draw:10 | draw:12 | book:4 | duel:4) words=("$@") ;;
+        draw:4 | draw:10 | draw:12 | book:4 | book:12 | duel:4) words=("$@") ;;
         table:12 | duel:12) words=("$@") ;;
         moves:3) words=(moves --positions 1 -- "$GAME") ;;
         settle:3 | split:3 | join:3) words=(--positions 1 -- "$GAME" /dev/null) ;;

@@ -6,7 +6,7 @@ use Rattle.pg_binding.proofs.Common.{IsLackingOne, Memory, Read, Refused, SpanGa
 use Rattle.pg_binding.proofs.Common.{Telling, VecGame, Write, entry, span_entry, vector_entry}
 use Rattle.pg_io.specs.Causes.{Faults}
 use Rattle.pg_binding.specs.Books.{with_evidence}
-use Rattle.pg_binding.specs.Games.AnyEntry.{Connectivity, Positional, Vectors}
+use Rattle.pg_drawing.specs.Boards.AnyEntry.{Connectivity, Positional, Vectors}
 
 -- what is missing of one thing is missing of another
 pub halt_caused : (S T absent lacks : Type 0)

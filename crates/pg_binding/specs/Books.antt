@@ -4,8 +4,8 @@ use Rattle.pg_binding.specs.Prelude.{Bytes, Cert, Evidence, Halt, SpanCert, cert
 use Rattle.pg_binding.specs.Prelude.{evidence_held, span_cert_held}
 use Rattle.pg_family_files.specs.FamilyFile.{SpanEntry, VectorEntry}
 use Rattle.pg_files.specs.GameFile.{Entry as GameEntry}
-use Rattle.pg_binding.specs.Games.{AnyEntry, any_held}
-use Rattle.pg_binding.specs.Games.AnyEntry.{Connectivity, Positional, Vectors}
+use Rattle.pg_drawing.specs.Boards.{AnyEntry, any_held}
+use Rattle.pg_drawing.specs.Boards.AnyEntry.{Connectivity, Positional, Vectors}
 
 -- a game with a certificate of its kind; that of a game on lines or a switching game is in either
 -- form

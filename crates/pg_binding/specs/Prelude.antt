@@ -3,7 +3,6 @@ pub use Rattle.pg_book.specs.Books.{book_text}
 pub use Rattle.pg_cert.specs.Limits.{IsWithinLimits, node_count}
 pub use Rattle.pg_cert.specs.Valid.{IsValid}
 pub use Rattle.pg_cert.specs.declared.cert.Cert.{Cert}
-pub use Rattle.pg_drawing.specs.Boards.{is_other_kind}
 pub use Rattle.pg_drawing.specs.Due.{Finds, IsFound, IsHaltDue}
 pub use Rattle.pg_drawing.specs.Runs.{IsStopped, SaysNothing}
 pub use Rattle.pg_drawing.specs.declared.picturing.Telling.{Telling}
@@ -12,14 +11,12 @@ pub use Rattle.pg_evidence.specs.Evidence.{evidence_held}
 pub use Rattle.pg_evidence.specs.Standing.{HasFault, MakesStanding, RejectsEvidence, StandsFor}
 pub use Rattle.pg_evidence.specs.declared.evidence.Evidence.{Evidence}
 pub use Rattle.pg_families.specs.Connectivity.{OpensSpanCert, RejectsSpan, span_cert_held}
-pub use Rattle.pg_families.specs.Connectivity.{span_held}
-pub use Rattle.pg_families.specs.Vectors.{RejectsVectors, vectors_held}
+pub use Rattle.pg_families.specs.Vectors.{RejectsVectors}
 pub use Rattle.pg_family_book.specs.Spans.{span_book_text}
 pub use Rattle.pg_family_book.specs.Vectors.{vector_book_text}
 pub use Rattle.pg_family_files.specs.SpanCertPrint.{IsWithinRanges}
 pub use Rattle.pg_family_files.specs.Views.{span_entry, vector_entry}
 pub use Rattle.pg_files.specs.Views.{entry}
-pub use Rattle.pg_files.specs.declared.fault.Fault.TheVariants.{Size}
 pub use Rattle.pg_game.specs.declared.game.Game.{Game}
 pub use Rattle.pg_gf2.specs.Check.{IsFirstVecFault, IsVecValid}
 pub use Rattle.pg_gf2.specs.declared.flaw.VecFlaw.{VecFlaw}
@@ -39,12 +36,11 @@ pub use Rattle.pg_span.specs.Valid.{IsFirstFlaw, IsSpanValid}
 pub use Rattle.pg_span.specs.declared.cert.SpanCert.{SpanCert}
 pub use Rattle.pg_span.specs.declared.flaw.SpanFlaw.{SpanFlaw}
 pub use Rattle.pg_span.specs.declared.game.SpanGame.{SpanGame}
-pub use Rattle.pg_talk.specs.Halts.{HaltCauses, HasCause, IsGameHalt, IsReadHalt, stop_status}
-pub use Rattle.pg_talk.specs.Opening.{IsSaidBy, game_held}
-pub use Rattle.pg_talk.specs.Reading.{IsLackingOne, IsLackingTwo, IsReadAs, Opens}
-pub use Rattle.pg_talk.specs.Reading.{OpensCertificate, certificate_held, game_fault, held_as}
+pub use Rattle.pg_talk.specs.Halts.{HaltCauses, HasCause, IsReadHalt, stop_status}
+pub use Rattle.pg_talk.specs.Opening.{IsSaidBy}
+pub use Rattle.pg_talk.specs.Reading.{IsLackingOne, IsLackingTwo, Opens}
+pub use Rattle.pg_talk.specs.Reading.{OpensCertificate, certificate_held}
 pub use Rattle.pg_talk.specs.Reading.{lacking}
 pub use Rattle.pg_talk.specs.declared.halt.Halt.{Halt}
 pub use Rattle.pg_talk.specs.declared.halt.Halt.TheVariants.{Refused, Stopped}
-pub use Rattle.pg_text.specs.declared.error.FileError.{FileError}
 pub use Rattle.std.specs.List.{Contains}

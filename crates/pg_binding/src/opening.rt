@@ -3,16 +3,14 @@ ghost use Rattle.std.specs.Prelude.{◌≡◌, ℕ, Option, Ok, IfErr, IfOk};
 ghost use Rattle.pg_binding.specs.Prelude.{Chart, DONE, Finds, HaltCauses, IsLackingOne};
 ghost use Rattle.pg_binding.specs.Prelude.{IsLackingTwo, IsReadHalt, ReadsOnly, entry, span_entry};
 ghost use Rattle.pg_binding.specs.Prelude.{vector_entry};
-ghost use Rattle.pg_binding.specs.Games.{any_entry};
-ghost use Rattle.pg_binding.specs.Games.AnyEntry.{Connectivity, Positional, Vectors};
+ghost use Rattle.pg_drawing.specs.Boards.{any_entry};
+ghost use Rattle.pg_drawing.specs.Boards.AnyEntry.{Connectivity, Positional, Vectors};
 ghost use Rattle.pg_binding.specs.Books.{book_held, with_evidence};
 ghost use Rattle.pg_binding.specs.Due.{IsBookDue};
 
-use crate::game::BookGame;
 use crate::order::BookOrder;
-use crate::reading::open_book_game;
 use crate::telling::{tell_evidence, tell_span, tell_vectors};
-use pg_drawing::Telling;
+use pg_drawing::{Board, Telling, open_board};
 use pg_evidence::open_evidence;
 use pg_families::open_span_cert;
 use pg_game::Game;
@@ -95,7 +93,7 @@ fn tell_on_vectors<F: Files>(
 fn tell_on<F: Files>(
     alloc: Global,
     files: &mut F,
-    game: &BookGame,
+    game: &Board,
     certificate: &str,
     layout: Option<Chart>,
     depth: Option<u32>,
@@ -111,9 +109,9 @@ fn tell_on<F: Files>(
     ensures kept { ReadsOnly (F.told files.old) (F.told files.new) }
 {
     match game {
-        BookGame::Positional(on) => tell_on_game(alloc, files, on, certificate, layout, depth),
-        BookGame::Connectivity(on) => tell_on_span(alloc, files, on, certificate),
-        BookGame::Vectors(on) => tell_on_vectors(alloc, files, on, certificate),
+        Board::Positional(on) => tell_on_game(alloc, files, on, certificate, layout, depth),
+        Board::Connectivity(on) => tell_on_span(alloc, files, on, certificate),
+        Board::Vectors(on) => tell_on_vectors(alloc, files, on, certificate),
     }
 }
 
@@ -133,7 +131,7 @@ pub(crate) fn tell<F: Files>(
         (F.told files.old).faults (F.told files.new).faults result }
     ensures kept { ReadsOnly (F.told files.old) (F.told files.new) }
 {
-    let game = open_book_game(alloc, files, order.game)?;
+    let game = open_board(alloc, files, order.game)?;
     tell_on(
         alloc,
         files,

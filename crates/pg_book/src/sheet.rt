@@ -11,7 +11,7 @@ use std::alloc::{AllocError, Global};
 
 /// The style sheet of a book but for its board: one section is shown at a time. If none is chosen,
 /// the first is shown, and all are printed. Pictures are light in dark pages too, as on paper. The
-/// frame of a cell is open at its upper left corner, where the cell's number is.
+/// frame of a cell is open in its upper side, where the cell's number is.
 pub const STYLE: &str = "
 :root{color-scheme:light dark;--back:#fff;--ink:#111;--link:#0645ad;--seen:#8a2f8a}
 @media (prefers-color-scheme:dark){:root{--back:#15181c;--ink:#e8e8e8;--link:#8ab4f8;
@@ -30,7 +30,8 @@ background-size:100% auto;border-radius:.3rem;print-color-adjust:exact;--link:#0
 --seen:#8a2f8a}
 rect,circle{stroke:#333;stroke-width:1}
 rect.reply{rx:5px;
-stroke-dasharray:0 18 4 3 4 3 4 3 4 3 4 3 4 3 4 3 4 3 4 3 4 3 4 3 4 3 4 3 4 3 4 3 4 3 4 3 4 3 0 20}
+stroke-dasharray:0 18 4 3 4 3 4 3 4 3 4 3 4 3 4 3 4 3 4 3 4 3 4 3 4 3 4 3 4 3 4 3 4 3 4 3 4 3
+4 3 4 3}
 line{fill:none;stroke:#333;stroke-width:2}
 text{font:11px sans-serif;text-anchor:middle;dominant-baseline:central;fill:#111}
 .free,.vertex{fill:#fff}
@@ -60,7 +61,7 @@ a:visited .reply{stroke:var(--seen)}
 a:hover .reply{fill:#0645ad33}
 .mark{font-size:18px;font-weight:bold}
 .weight{font-size:13px;font-weight:bold}
-.corner{fill:#666;text-anchor:start}
+.corner{font-size:8.5px;letter-spacing:-.5px;fill:#555;text-anchor:end}
 .heading{font-size:14px;text-anchor:start;dominant-baseline:hanging}
 .choice input{appearance:none;width:100%;height:100%;margin:0;cursor:pointer}
 .choice input:hover,.choice input:focus-visible{outline:3px solid var(--link);outline-offset:-4px}

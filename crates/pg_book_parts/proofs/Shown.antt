@@ -1,6 +1,6 @@
 -- What pictures and links in pages are: whole, without sections, and their links lead to pages.
 use Rattle.std.proofs.Common.{◌≡◌, ℕ, Bool, true, false, List, [], ◌∷◌, ◌++◌, length, Option}
-use Rattle.std.proofs.Common.{Some, None, refl}
+use Rattle.std.proofs.Common.{Some, None, refl, ◌∙◌, ap, ap₂}
 use Rattle.std.specs.Prelude.{codes, slice_get}
 use Rattle.std.specs.List.{flat_map, range_with_len}
 use Rattle.pg_base.specs.Side.{other}
@@ -12,6 +12,7 @@ use Rattle.pg_cert.specs.declared.node.Body.TheVariants as bodies
 use Rattle.pg_cert.specs.declared.reply.Reply.{Reply}
 use Rattle.pg_page.specs.Html.{numbered, worded}
 use Rattle.pg_page.specs.declared.attribute.Name.TheVariants as names
+use Rattle.pg_page.specs.declared.piece.Piece.{Piece}
 use Rattle.pg_page.specs.declared.piece.Piece.TheVariants as pieces
 use Rattle.pg_page.specs.declared.tag.LoneTag.TheVariants as lone
 use Rattle.pg_page.specs.declared.tag.Tag.TheVariants as tags
@@ -19,15 +20,17 @@ use Rattle.pg_picture.specs.declared.paint.Paint.{Paint}
 use Rattle.pg_picture.specs.declared.shape.Place.{Place}
 use Rattle.pg_picture.specs.declared.shape.Shape.{Shape}
 use Rattle.pg_picture.specs.declared.shape.Shape.TheVariants as shapes
+use Rattle.pg_places.specs.Courses.{midway}
 use Rattle.pg_places.specs.declared.measures.TheConstants.{CELL, HALF}
 use Rattle.pg_scene.specs.declared.board.Board.{Board}
-use Rattle.pg_scene.specs.declared.board.Board.TheVariants.{Graph, Grid, Laid, Ring}
+use Rattle.pg_scene.specs.declared.board.Board.TheVariants.{Graph, Grid, Laid, Ring, Table}
 use Rattle.pg_book_parts.specs.Chapters.{has_page, link_by, link_pieces, number_text, page_id}
 use Rattle.pg_book_parts.specs.Chapters.{page_of}
 use Rattle.pg_book_parts.specs.Elements.{paragraph}
 use Rattle.pg_book_parts.specs.Layouts.{place_at}
 use Rattle.pg_book_parts.specs.Origins.{origin_lead, origin_pieces}
-use Rattle.pg_book_parts.specs.Pictures.{around_pieces, button_pieces, choice_pieces}
+use Rattle.pg_book_parts.specs.Pictures.{around_pieces, bent_pieces, bow_pieces, button_pieces}
+use Rattle.pg_book_parts.specs.Pictures.{choice_pieces}
 use Rattle.pg_book_parts.specs.Pictures.{chosen_pieces, circle_pieces, group_text, input_pieces}
 use Rattle.pg_book_parts.specs.Pictures.{letter_pieces, mark_pieces, over_pieces, painted, pair_by}
 use Rattle.pg_book_parts.specs.Pictures.{pairs_pieces, ring_by, ring_pieces, side_class}
@@ -40,17 +43,50 @@ use Rattle.pg_book_parts.specs.declared.layout.Layout.{Layout}
 use Rattle.pg_book_parts.specs.declared.origins.Origin.{Origin}
 use Rattle.pg_book_parts.specs.declared.over.TheConstants.{EDGE_RADIUS, MARK_RADIUS, RING_RADIUS}
 use Rattle.pg_book_parts.specs.declared.over.TheConstants.{SQUARE_HALF, SQUARE_SIDE}
+use Rattle.pg_book_parts.proofs.Steps.{then_two}
 use Rattle.pg_book_parts.proofs.Parts.{each-part, element-part, IsPart, label-part, leads-one}
 use Rattle.pg_book_parts.proofs.Parts.{lone-part, no-part, plain-part, said-part, then-part}
 use Rattle.pg_book_parts.proofs.Parts.{words-part}
 
 -- ---- pictures
 
+-- both halves of a bow are added
+pub bow_steps : (from bend to near far middle : Place) (paint : Paint) (old p q : List Piece)
+    → near ≡ midway from bend
+    → far ≡ midway bend to
+    → middle ≡ midway near far
+    → p ≡ old ++ bent_pieces from near middle paint
+    → q ≡ p ++ bent_pieces middle far to paint
+    → q ≡ old ++ bow_pieces from bend to paint
+bow_steps from bend to near far middle paint old p q n f m one two =
+    let first = midway from bend in
+    let last = midway bend to in
+    then_two old p q (bent_pieces from near middle paint) (bent_pieces middle far to paint) one two
+    ∙ ap (λ x. old ++ (bent_pieces from x middle paint ++ bent_pieces middle far to paint)) n
+    ∙ ap (λ x. old ++ (bent_pieces from first middle paint ++ bent_pieces middle x to paint)) f
+    ∙ ap (λ x. old ++ (bent_pieces from first x paint ++ bent_pieces x last to paint))
+    (m ∙ ap₂ midway n f)
+
 module _ (ok : Bytes → Type 0) where
   stroke-part : (from to : Place) (paint : Paint) → IsPart ok [] (stroke_pieces from to paint)
   stroke-part from to paint = lone-part ok lone.Line
       (painted paint ∷ numbered names.X1 from.across ∷ numbered names.Y1 from.down
       ∷ numbered names.X2 to.across ∷ numbered names.Y2 to.down ∷ []) refl
+
+  bent-part : (from bend to : Place) (paint : Paint)
+      → IsPart ok [] (bent_pieces from bend to paint)
+  bent-part from bend to paint =
+      let on = midway (midway from bend) (midway bend to) in
+      then-part ok [] (stroke_pieces from on paint) (stroke_pieces on to paint)
+      (stroke-part from on paint) (stroke-part on to paint)
+
+  bow-part : (from bend to : Place) (paint : Paint) → IsPart ok [] (bow_pieces from bend to paint)
+  bow-part from bend to paint =
+      let near = midway from bend in
+      let far = midway bend to in
+      let middle = midway near far in
+      then-part ok [] (bent_pieces from near middle paint) (bent_pieces middle far to paint)
+      (bent-part from near middle paint) (bent-part middle far to paint)
 
   pub shape-part : (s : Shape) → IsPart ok [] (shape_pieces s)
   unfolding shape_pieces
@@ -61,9 +97,7 @@ module _ (ok : Bytes → Type 0) where
       (painted paint ∷ numbered names.Cx centre.across ∷ numbered names.Cy centre.down
       ∷ numbered names.R radius ∷ []) refl
   shape-part (shapes.Stroke from to paint) = stroke-part from to paint
-  shape-part (shapes.Bow from bend to paint) =
-      then-part ok [] (stroke_pieces from bend paint) (stroke_pieces bend to paint)
-      (stroke-part from bend paint) (stroke-part bend to paint)
+  shape-part (shapes.Bow from bend to paint) = bow-part from bend to paint
   shape-part (shapes.Words place words paint) = label-part ok tags.Text
       (painted paint ∷ numbered names.X place.across ∷ numbered names.Y place.down ∷ []) words
       refl refl
@@ -81,6 +115,7 @@ module _ (ok : Bytes → Type 0) where
   around-part (Laid chart) place = circle-part (codes "reply") RING_RADIUS place
   around-part (Graph vertices ends terminals bridge) place =
       circle-part (codes "reply") EDGE_RADIUS place
+  around-part (Table rows target) place = circle-part (codes "reply") RING_RADIUS place
 
   letter-part : (side : Side) (place : Place) → IsPart ok [] (letter_pieces side place)
   letter-part side place = label-part ok tags.Text

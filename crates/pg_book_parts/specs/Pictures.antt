@@ -17,6 +17,7 @@ use Rattle.pg_page.specs.declared.piece.Piece.{Piece}
 use Rattle.pg_page.specs.declared.piece.Piece.TheVariants as pieces
 use Rattle.pg_page.specs.declared.tag.LoneTag.TheVariants as lone
 use Rattle.pg_page.specs.declared.tag.Tag.TheVariants as tags
+use Rattle.pg_places.specs.Courses.{midway}
 use Rattle.pg_places.specs.declared.measures.TheConstants.{CELL, HALF}
 unfoldable use Rattle.pg_picture.specs.Svg.{class_name}
 use Rattle.pg_picture.specs.declared.paint.Paint.{Paint}
@@ -25,7 +26,7 @@ use Rattle.pg_picture.specs.declared.shape.Place.{Place}
 use Rattle.pg_picture.specs.declared.shape.Shape.{Shape}
 use Rattle.pg_picture.specs.declared.shape.Shape.TheVariants as shapes
 use Rattle.pg_scene.specs.declared.board.Board.{Board}
-use Rattle.pg_scene.specs.declared.board.Board.TheVariants.{Graph, Grid, Laid, Ring}
+use Rattle.pg_scene.specs.declared.board.Board.TheVariants.{Graph, Grid, Laid, Ring, Table}
 use Rattle.pg_book_parts.specs.Chapters.{has_page, page_id, page_of}
 use Rattle.pg_book_parts.specs.Elements.{element, labelled}
 use Rattle.pg_book_parts.specs.Layouts.{place_at}
@@ -48,7 +49,21 @@ stroke_pieces from to paint = pieces.Lone lone.Line
     (painted paint ∷ numbered names.X1 from.across ∷ numbered names.Y1 from.down
     ∷ numbered names.X2 to.across ∷ numbered names.Y2 to.down ∷ []) ∷ []
 
--- a shape; a bow is two strokes
+-- a part of a bow: two strokes that meet on its curve
+abbrev pub bent_pieces : Place → Place → Place → Paint → List Piece
+bent_pieces from bend to paint =
+    let on = midway (midway from bend) (midway bend to) in
+    stroke_pieces from on paint ++ stroke_pieces on to paint
+
+-- a bow: both halves of its curve
+abbrev pub bow_pieces : Place → Place → Place → Paint → List Piece
+bow_pieces from bend to paint =
+    let near = midway from bend in
+    let far = midway bend to in
+    let middle = midway near far in
+    bent_pieces from near middle paint ++ bent_pieces middle far to paint
+
+-- a shape; a bow is four strokes
 unfoldable pub shape_pieces : Shape → List Piece
 shape_pieces (shapes.Square corner side paint) = pieces.Lone lone.Rect
     (painted paint ∷ numbered names.X corner.across ∷ numbered names.Y corner.down
@@ -57,8 +72,7 @@ shape_pieces (shapes.Disc centre radius paint) = pieces.Lone lone.Circle
     (painted paint ∷ numbered names.Cx centre.across ∷ numbered names.Cy centre.down
     ∷ numbered names.R radius ∷ []) ∷ []
 shape_pieces (shapes.Stroke from to paint) = stroke_pieces from to paint
-shape_pieces (shapes.Bow from bend to paint) =
-    stroke_pieces from bend paint ++ stroke_pieces bend to paint
+shape_pieces (shapes.Bow from bend to paint) = bow_pieces from bend to paint
 shape_pieces (shapes.Words place words paint) = labelled tags.Text
     (painted paint ∷ numbered names.X place.across ∷ numbered names.Y place.down ∷ []) words
 
@@ -93,6 +107,7 @@ around_pieces (Ring points) place = circle_pieces (codes "reply") RING_RADIUS pl
 around_pieces (Laid chart) place = circle_pieces (codes "reply") RING_RADIUS place
 around_pieces (Graph vertices ends terminals bridge) place =
     circle_pieces (codes "reply") EDGE_RADIUS place
+around_pieces (Table rows target) place = circle_pieces (codes "reply") RING_RADIUS place
 
 -- a ring around a point that leads to a page, if there is one; the list of links has it too, so
 -- the tabulator passes it

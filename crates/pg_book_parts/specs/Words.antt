@@ -5,7 +5,7 @@ use Rattle.pg_base.specs.Texts.{Bytes}
 use Rattle.pg_base.specs.declared.kind.Kind.{Kind}
 use Rattle.pg_base.specs.declared.side.Side.{Side}
 use Rattle.pg_scene.specs.declared.board.Board.{Board}
-use Rattle.pg_scene.specs.declared.board.Board.TheVariants.{Graph, Grid, Laid, Ring}
+use Rattle.pg_scene.specs.declared.board.Board.TheVariants.{Graph, Grid, Laid, Ring, Table}
 use Rattle.pg_captions.specs.Words.{side_name}
 use Rattle.pg_book_parts.specs.declared.layout.Layout.{Layout}
 
@@ -40,6 +40,7 @@ point_words (Grid width height) v = cell_words width height v
 point_words (Ring points) v = codes "point " ++ decimal v
 point_words (Laid chart) v = codes "point " ++ decimal v
 point_words (Graph vertices ends terminals bridge) v = edge_words ends v
+point_words (Table rows target) v = codes "vector " ++ decimal v
 
 -- a side and what it does
 abbrev pub side_words : Kind → Side → Bytes → Bytes

@@ -3,6 +3,7 @@ ghost use Rattle.std.specs.Prelude.{◌≡◌};
 ghost use Rattle.pg_book_parts.specs.Layouts.{place_at};
 
 use pg_base::Kind;
+use pg_draw::place_in_table;
 use pg_layout::Chart;
 use pg_picture::Place;
 use pg_places::{Courses, place_on_chart, place_on_grid, place_on_ring};
@@ -31,6 +32,7 @@ impl Layout {
             Board::Ring { points } => place_on_ring(*points, point),
             Board::Laid { chart } => place_on_chart(chart, point),
             Board::Graph { .. } => self.courses.place_of(point),
+            Board::Table { .. } => place_in_table(point),
         }
     }
 }

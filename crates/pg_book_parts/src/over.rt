@@ -32,7 +32,7 @@ pub const MARK_RADIUS: u32 = 16;
 /// The radius of a ring that leads to a page, around a disc.
 pub const RING_RADIUS: u32 = 20;
 
-/// The radius of a ring that leads to a page, around the middle of an edge.
+/// The radius of a ring that leads to a page, around the place of an edge.
 pub const EDGE_RADIUS: u32 = 12;
 
 /// How far a square that leads to a page reaches from the middle of its cell.
@@ -103,7 +103,7 @@ fn push_around(
 {
     match board {
         Board::Grid { .. } => push_square(alloc, pieces, place),
-        Board::Ring { .. } | Board::Laid { .. } => {
+        Board::Ring { .. } | Board::Laid { .. } | Board::Table { .. } => {
             push_circle(alloc, pieces, "reply", RING_RADIUS, place)
         }
         Board::Graph { .. } => push_circle(alloc, pieces, "reply", EDGE_RADIUS, place),

@@ -2,14 +2,15 @@
 ghost use Rattle.std.specs.Prelude.{◌≡◌, ◌++◌, ◌∷◌, [], IfOk, OnOk, codes, decimal, string_bytes};
 ghost use Rattle.std.specs.List.{flat_map};
 ghost use Rattle.pg_picture.specs.Svg.{class_name};
-ghost use Rattle.pg_book_parts.specs.Pictures.{view_text};
-ghost use Rattle.pg_book_parts.specs.Pictures.{painted, shape_pieces, stroke_pieces};
-ghost use Rattle.pg_picture.specs.declared.shape.Shape.TheVariants.{Bow, Disc, Square, Words};
+ghost use Rattle.pg_book_parts.specs.Pictures.{bent_pieces, bow_pieces, painted, shape_pieces};
+ghost use Rattle.pg_book_parts.specs.Pictures.{stroke_pieces, view_text};
+ghost use Rattle.pg_picture.specs.declared.shape.Shape.TheVariants.{Disc, Square, Words};
 
 use crate::elements::push_labelled;
 use pg_base::Memory;
 use pg_page::{Attributes, LoneTag, Name, Piece, Tag};
 use pg_picture::{Paint, Picture, Place, Shape, Text};
+use pg_places::midway;
 use std::alloc::{AllocError, Global};
 use std::fmt::Write;
 
@@ -136,8 +137,23 @@ fn push_disc(
     Ok(())
 }
 
-/// Adds a bow as two strokes.
-#[tactic(auto, unfolding(crate::specs::Pictures::shape_pieces))]
+/// Adds a part of a bow as two strokes that meet on its curve.
+fn push_bent(
+    alloc: Global,
+    pieces: &mut Vec<Piece>,
+    from: Place,
+    bend: Place,
+    to: Place,
+    paint: Paint,
+) -> Result<(), Memory>
+    ensures { OnOk result (pieces.new.items ≡ pieces.old.items ++ bent_pieces from bend to paint) }
+{
+    let on = midway(midway(from, bend), midway(bend, to));
+    push_stroke(alloc, pieces, from, on, paint)?;
+    push_stroke(alloc, pieces, on, to, paint)
+}
+
+/// Adds a bow as four strokes.
 fn push_bow(
     alloc: Global,
     pieces: &mut Vec<Piece>,
@@ -146,11 +162,13 @@ fn push_bow(
     to: Place,
     paint: Paint,
 ) -> Result<(), Memory>
-    ensures { OnOk result
-        (pieces.new.items ≡ pieces.old.items ++ shape_pieces (Bow from bend to paint)) }
+    ensures { OnOk result (pieces.new.items ≡ pieces.old.items ++ bow_pieces from bend to paint) }
 {
-    push_stroke(alloc, pieces, from, bend, paint)?;
-    push_stroke(alloc, pieces, bend, to, paint)
+    let near = midway(from, bend);
+    let far = midway(bend, to);
+    let middle = midway(near, far);
+    push_bent(alloc, pieces, from, near, middle, paint)?;
+    push_bent(alloc, pieces, middle, far, to, paint)
 }
 
 /// Adds words in a picture.

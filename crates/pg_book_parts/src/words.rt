@@ -78,8 +78,8 @@ fn put_edge(out: &mut String, ends: &[(u16, u16)], edge: u16) -> Result<(), Allo
     put_ends(out, ends_at(ends, edge))
 }
 
-/// Adds a point of a game: a cell by its row and its column, an edge with its ends, else a point by
-/// its number. An error means that memory ran out.
+/// Adds a point of a game: a cell by its row and its column, an edge with its ends, else a point or
+/// a vector by its number. An error means that memory ran out.
 pub fn put_point(out: &mut String, layout: &Layout, point: u16) -> Result<(), AllocError>
     ensures { OnOk result
         (string_bytes out.new ≡ string_bytes out.old ++ point_words layout.now.board point) }
@@ -91,6 +91,10 @@ pub fn put_point(out: &mut String, layout: &Layout, point: u16) -> Result<(), Al
             Ok(())
         }
         Board::Graph { ends, .. } => put_edge(out, ends.as_slice(), point),
+        Board::Table { .. } => {
+            write!(out, "vector {point}")?;
+            Ok(())
+        }
     }
 }
 

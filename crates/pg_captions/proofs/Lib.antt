@@ -1,3 +1,4 @@
 mod Common
 pub mod Lightest
 pub mod Short
+mod Below

@@ -1,25 +1,22 @@
 -- Legends: what is said of a game, of a position, and of what a node's body names.
-use Rattle.std.specs.Prelude.{ℕ, ◌++◌, nat_lt, Bool, true, false, if◌then◌else◌, List, [], ◌∷◌}
+use Rattle.std.specs.Prelude.{ℕ, ◌++◌, nat_lt, Bool, ◌&&◌, if◌then◌else◌, List, [], ◌∷◌}
 use Rattle.std.specs.Prelude.{length, codes, Option, Some, None}
 use Rattle.pg_captions.specs.Prelude.{decimal, count_text, Kind, AvoiderEnforcer, MakerBreaker}
 use Rattle.pg_captions.specs.Prelude.{MakerMaker, Switching, Side, Claim, Body, lines_of, Field}
 use Rattle.pg_captions.specs.Prelude.{Lines}
-use Rattle.pg_captions.specs.Prelude.{Graph, Game, Position}
+use Rattle.pg_captions.specs.Prelude.{Graph, Game, Position, is_graph, point_count}
 use Rattle.pg_base.specs.Side.{other}
 use Rattle.pg_base.specs.declared.goal.Goal.{Goal}
-use Rattle.pg_base.specs.declared.side.Side.TheVariants.{Y}
+use Rattle.pg_base.specs.declared.side.Side.TheVariants.{X, Y}
 use Rattle.pg_cert.specs.declared.node.Body.TheVariants as bodies
 use Rattle.pg_captions.specs.Look.{are_drawn}
+use Rattle.pg_captions.specs.Marks.{marks_lines, said_if, seen_lines, seen_sets}
 use Rattle.pg_captions.specs.Lightest.{base_of, most_free, own_of}
 use Rattle.pg_captions.specs.Words.{result_words, side_name}
 use Rattle.pg_captions.specs.declared.look.Legend.{Legend}
 use Rattle.pg_captions.specs.declared.look.Legend.TheVariants.{Absent, OfBody, Whole}
 use Rattle.pg_captions.specs.declared.look.Look.{Look}
-
--- the line, if the test holds
-abbrev pub said_if : Bool → List ℕ → List (List ℕ)
-said_if true line = line ∷ []
-said_if false line = []
+use Rattle.pg_captions.specs.declared.marks.Seen.{Seen}
 
 -- ---- a position
 
@@ -33,12 +30,16 @@ abbrev pub bias_line : Kind → ℕ → List ℕ
 bias_line kind bias =
     side_name kind Y ++ count_text (codes " claims ") bias (codes " points a turn")
 
--- how the points of the two sides look
-abbrev pub marks_line : Kind → List ℕ
-marks_line MakerBreaker = codes "X, dark: Maker; Y, light: Breaker"
-marks_line MakerMaker = codes "dark: X; light: Y"
-marks_line AvoiderEnforcer = codes "X, dark: Avoider; Y, light: Enforcer"
-marks_line Switching = codes "thick: Short's edges; dotted: Cut's"
+-- how the points of a side look
+abbrev pub mark_words : Kind → Side → List ℕ
+mark_words MakerBreaker X = codes "X, dark: Maker"
+mark_words MakerBreaker Y = codes "Y, light: Breaker"
+mark_words MakerMaker X = codes "dark: X"
+mark_words MakerMaker Y = codes "light: Y"
+mark_words AvoiderEnforcer X = codes "X, dark: Avoider"
+mark_words AvoiderEnforcer Y = codes "Y, light: Enforcer"
+mark_words Switching X = codes "thick: Short's edges"
+mark_words Switching Y = codes "dotted: Cut's edges"
 
 -- ---- a board
 
@@ -95,12 +96,11 @@ weights_lines base free = codes "bold: the weight of a point, which is"
     ∷ codes "the sum of the weights of its lines;"
     ∷ lightest_line free ∷ heavier_line base ∷ []
 
--- two sets of edges, and what each of them does
-abbrev pub sets_lines : Bool → List ℕ → List (List ℕ)
-sets_lines with_e does = codes "whole: the first set of edges;"
-    ∷ codes "dashed: the second set of edges;"
-    ∷ does
-    ∷ said_if with_e (codes "e: an extra edge, in the first set")
+-- two sets of edges, as they are seen, and what each of them does
+abbrev pub sets_lines : Seen → List ℕ → List (List ℕ)
+sets_lines seen does = seen_lines seen (codes "whole: the first set of edges;")
+    (codes "dashed: the second set of edges;")
+    ++ does ∷ said_if seen.further (codes "e: an extra edge, in the first set")
 
 -- attacks and replies
 abbrev pub threat_lines : List (List ℕ)
@@ -122,9 +122,11 @@ body_lines g p side (bodies.Pairs pairs) = pairs_lines g.kind side
 body_lines g p side bodies.Potential =
     weights_lines (base_of g.kind g.bias) (most_free (own_of g.kind p side) p (lines_of g))
 body_lines g p side (bodies.Trees with_e first second) =
-    sets_lines with_e (codes "each set joins the terminals")
+    sets_lines (seen_sets (with_e && is_graph g.field) (point_count g) first second)
+    (codes "each set joins the terminals")
 body_lines g p side (bodies.Cuts with_e first second) =
-    sets_lines with_e (codes "each set separates the terminals")
+    sets_lines (seen_sets (with_e && is_graph g.field) (point_count g) first second)
+    (codes "each set separates the terminals")
 body_lines g p side (bodies.Threat points) = threat_lines
 body_lines g p side (bodies.Weaker child) = weaker_lines g.kind side child
 
@@ -135,14 +137,15 @@ fault_lines None = []
 
 -- ---- legends
 
--- what is said of a game
-abbrev pub board_lines : Look → Game → List (List ℕ)
-board_lines look g = said_if (nat_lt 1 g.bias) (bias_line g.kind g.bias)
-    ++ marks_line g.kind ∷ size_line look.numbers g.field ∷ field_line look.lines g.field ∷ []
+-- what is said of a game, with the marks that are seen at a position
+abbrev pub board_lines : Look → Game → Position → List (List ℕ)
+board_lines look g p = said_if (nat_lt 1 g.bias) (bias_line g.kind g.bias)
+    ++ (marks_lines (mark_words g.kind X) (mark_words g.kind Y) p (point_count g)
+    ++ size_line look.numbers g.field ∷ field_line look.lines g.field ∷ [])
 
 -- what is said of a game and a position
 abbrev pub position_lines : Look → Game → Position → List (List ℕ)
-position_lines look g p = turn_line g.kind p ∷ board_lines look g
+position_lines look g p = turn_line g.kind p ∷ board_lines look g p
 
 -- what a claim says
 abbrev pub claim_line : Kind → Side → Side → Goal → List ℕ

@@ -1,7 +1,9 @@
 pub mod Prelude
 pub mod Look
 pub mod Lightest
+pub mod Marks
 pub mod Words
 pub mod Legends
 pub mod SpanLegends
 pub mod MoveLegends
+pub mod VectorLegends

@@ -34,4 +34,4 @@ abbrev pub moves_by : Legend → Look → Game → Position → Bool → List �
 moves_by Absent look g p over moves = []
 moves_by OfBody look g p over moves = order_lines moves
 moves_by Whole look g p over moves =
-    stage_line g.kind p over ∷ board_lines look g ++ order_lines moves
+    stage_line g.kind p over ∷ board_lines look g p ++ order_lines moves

@@ -1,27 +1,20 @@
 //! What the bodies of nodes name, in words.
-ghost use Rattle.std.specs.Prelude.{◌≡◌, ◌++◌, ◌∷◌, [], IfOk, OnOk};
+ghost use Rattle.std.specs.Prelude.{◌≡◌, ◌++◌, ◌∷◌, ◌&&◌, [], IfOk, OnOk};
 ghost use Rattle.pg_captions.specs.Legends.{body_lines, heavier_line, lightest_line, pairs_lines};
-ghost use Rattle.pg_captions.specs.Legends.{ring_lines, said_if, sets_lines, threat_lines};
+ghost use Rattle.pg_captions.specs.Legends.{ring_lines, sets_lines, threat_lines};
+ghost use Rattle.pg_captions.specs.Marks.{seen_sets};
+ghost use Rattle.pg_captions.specs.Prelude.{is_graph, point_count};
 ghost use Rattle.pg_captions.specs.Legends.{weaker_lines, weights_lines};
 
+use crate::marks::{Seen, put_if, put_seen, seen_sets};
 use crate::names::side_name;
 use crate::text::Text;
 use crate::weights::{base_of, most_free};
 use crate::words::put_line;
-use pg_base::{Kind, Memory, Side};
+use pg_base::{Kind, Memory, PointSet, Side};
 use pg_cert::Body;
-use pg_game::{Game, Position};
+use pg_game::{Field, Game, Position};
 use std::alloc::Global;
-
-/// Adds the line, if the test holds.
-fn put_if(alloc: Global, lines: &mut Vec<Text>, said: bool, words: &str) -> Result<(), Memory>
-    ensures { OnOk result (lines.new.items ≡ lines.old.items ++ said_if said words.now) }
-{
-    if said {
-        put_line(alloc, lines, words)?;
-    }
-    Ok(())
-}
 
 /// Adds that a side claims a ringed point.
 fn put_ring(alloc: Global, lines: &mut Vec<Text>, kind: Kind, side: Side) -> Result<(), Memory>
@@ -92,20 +85,59 @@ fn put_weights_lines(
     Ok(())
 }
 
-/// Adds what two sets of edges are, and what each of them does.
+/// Adds how two sets of edges look, and what each of them does.
 pub(crate) fn put_sets_lines(
     alloc: Global,
     lines: &mut Vec<Text>,
-    with_e: bool,
+    seen: Seen,
     does: &str,
 ) -> Result<(), Memory>
-    ensures { OnOk result (lines.new.items ≡ lines.old.items ++ sets_lines with_e does.now) }
+    ensures { OnOk result (lines.new.items ≡ lines.old.items ++ sets_lines seen does.now) }
 {
-    put_line(alloc, lines, "whole: the first set of edges;")?;
-    put_line(alloc, lines, "dashed: the second set of edges;")?;
+    put_seen(
+        alloc,
+        lines,
+        seen,
+        "whole: the first set of edges;",
+        "dashed: the second set of edges;",
+    )?;
     put_line(alloc, lines, does)?;
-    put_if(alloc, lines, with_e, "e: an extra edge, in the first set")?;
+    put_if(
+        alloc,
+        lines,
+        seen.further,
+        "e: an extra edge, in the first set",
+    )?;
     Ok(())
+}
+
+/// Whether the game is played on a graph.
+fn is_on_graph(g: &Game) -> bool
+    ensures { result ≡ is_graph g.now.field }
+{
+    match &g.field {
+        Field::Lines(_) => false,
+        Field::Graph(_) => true,
+    }
+}
+
+/// Adds how two sets of edges of a game look, the further edge among them if there is one.
+fn put_game_sets(
+    alloc: Global,
+    lines: &mut Vec<Text>,
+    g: &Game,
+    with_e: bool,
+    first: &PointSet,
+    second: &PointSet,
+    does: &str,
+) -> Result<(), Memory>
+    ensures { OnOk result
+        (lines.new.items ≡ lines.old.items ++ sets_lines
+        (seen_sets (with_e && is_graph g.now.field) (point_count g.now) first.now second.now)
+        does.now) }
+{
+    let seen = seen_sets(with_e && is_on_graph(g), g.points(), first, second);
+    put_sets_lines(alloc, lines, seen, does)
 }
 
 /// Adds how attacks and replies look.
@@ -151,12 +183,32 @@ pub(crate) fn put_body_lines(
         Body::All(_) => put_ring(alloc, lines, g.kind, side.other()),
         Body::Pairs(_) => put_pairs_lines(alloc, lines, g.kind, side),
         Body::Potential => put_weights_lines(alloc, lines, base_of(g), most_free(g, p, side)),
-        Body::Trees { with_e, .. } => {
-            put_sets_lines(alloc, lines, *with_e, "each set joins the terminals")
-        }
-        Body::Cuts { with_e, .. } => {
-            put_sets_lines(alloc, lines, *with_e, "each set separates the terminals")
-        }
+        Body::Trees {
+            with_e,
+            first,
+            second,
+        } => put_game_sets(
+            alloc,
+            lines,
+            g,
+            *with_e,
+            first.as_set(),
+            second.as_set(),
+            "each set joins the terminals",
+        ),
+        Body::Cuts {
+            with_e,
+            first,
+            second,
+        } => put_game_sets(
+            alloc,
+            lines,
+            g,
+            *with_e,
+            first.as_set(),
+            second.as_set(),
+            "each set separates the terminals",
+        ),
         Body::Threat(_) => put_threat_lines(alloc, lines),
         Body::Weaker { child } => put_weaker_line(alloc, lines, g.kind, side, *child),
     }

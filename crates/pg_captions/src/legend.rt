@@ -1,14 +1,18 @@
 //! Legends of games and of nodes.
-ghost use Rattle.std.specs.Prelude.{◌≡◌, ◌++◌, ◌∷◌, [], IfOk, OnOk, string_bytes};
+ghost use Rattle.std.specs.Prelude.{◌≡◌, ◌++◌, ◌∷◌, [], IfOk, OnOk, nat_lt, string_bytes};
 ghost use Rattle.pg_captions.specs.Legends.{bias_line, board_lines, claim_line, fault_lines};
 ghost use Rattle.pg_captions.specs.Legends.{field_line};
 ghost use Rattle.pg_captions.specs.Legends.{game_legend, graph_line, graph_words, lines_line};
-ghost use Rattle.pg_captions.specs.Legends.{marks_line, node_legend, node_lines, position_lines};
+ghost use Rattle.pg_captions.specs.Legends.{mark_words, node_legend, node_lines, position_lines};
 ghost use Rattle.pg_captions.specs.Legends.{said_by, size_line, turn_line};
+ghost use Rattle.pg_captions.specs.Marks.{marks_lines, said_if};
+ghost use Rattle.pg_captions.specs.Prelude.{point_count};
+ghost use Rattle.pg_base.specs.declared.side.Side.TheVariants.{X, Y};
 
 use crate::body_words::put_body_lines;
 use crate::lines::are_drawn;
 use crate::look::{Legend, Look};
+use crate::marks::put_marks;
 use crate::names::side_name;
 use crate::text::{Text, Texts};
 use crate::words::{put_line, put_result, text_of};
@@ -32,6 +36,19 @@ pub(crate) fn turn_line(alloc: Global, kind: Kind, p: &Position) -> Result<Text,
     Ok(Text::from_string(words))
 }
 
+/// Adds who is to move.
+pub(crate) fn put_turn(
+    alloc: Global,
+    lines: &mut Vec<Text>,
+    kind: Kind,
+    p: &Position,
+) -> Result<(), Memory>
+    ensures { OnOk result (lines.new.items ≡ lines.old.items ++ turn_line kind p.now ∷ []) }
+{
+    lines.push(turn_line(alloc, kind, p)?)?;
+    Ok(())
+}
+
 /// How many points Y claims in a turn.
 fn bias_line(alloc: Global, kind: Kind, bias: u8) -> Result<Text, Memory>
     ensures { IfOk result (λ text. text ≡ bias_line kind bias) }
@@ -40,15 +57,19 @@ fn bias_line(alloc: Global, kind: Kind, bias: u8) -> Result<Text, Memory>
     Ok(Text::from_string(format!(in alloc; "{name} claims {bias} points a turn")?))
 }
 
-/// How the points of the two sides look.
-fn marks_line(kind: Kind) -> &'static str
-    ensures { result.now ≡ marks_line kind }
+/// How the points of a side look.
+fn mark_words(kind: Kind, side: Side) -> &'static str
+    ensures { result.now ≡ mark_words kind side }
 {
-    match kind {
-        Kind::MakerBreaker => "X, dark: Maker; Y, light: Breaker",
-        Kind::MakerMaker => "dark: X; light: Y",
-        Kind::AvoiderEnforcer => "X, dark: Avoider; Y, light: Enforcer",
-        Kind::Switching => "thick: Short's edges; dotted: Cut's",
+    match (kind, side) {
+        (Kind::MakerBreaker, Side::X) => "X, dark: Maker",
+        (Kind::MakerBreaker, Side::Y) => "Y, light: Breaker",
+        (Kind::MakerMaker, Side::X) => "dark: X",
+        (Kind::MakerMaker, Side::Y) => "light: Y",
+        (Kind::AvoiderEnforcer, Side::X) => "X, dark: Avoider",
+        (Kind::AvoiderEnforcer, Side::Y) => "Y, light: Enforcer",
+        (Kind::Switching, Side::X) => "thick: Short's edges",
+        (Kind::Switching, Side::Y) => "dotted: Cut's edges",
     }
 }
 
@@ -140,19 +161,46 @@ fn put_field_line(
     Ok(())
 }
 
-/// Adds what is said of a game.
+/// Adds how many points Y claims in a turn, if these are several.
+fn put_bias(alloc: Global, lines: &mut Vec<Text>, g: &Game) -> Result<(), Memory>
+    ensures { OnOk result
+        (lines.new.items
+        ≡ lines.old.items ++ said_if (nat_lt 1 g.now.bias) (bias_line g.now.kind g.now.bias)) }
+{
+    if g.bias > 1 {
+        lines.push(bias_line(alloc, g.kind, g.bias)?)?;
+    }
+    Ok(())
+}
+
+/// Adds how the points of the two sides look, if they are seen.
+fn put_game_marks(
+    alloc: Global,
+    lines: &mut Vec<Text>,
+    g: &Game,
+    p: &Position,
+) -> Result<(), Memory>
+    ensures { OnOk result
+        (lines.new.items ≡ lines.old.items ++ marks_lines
+        (mark_words g.now.kind X) (mark_words g.now.kind Y) p.now (point_count g.now)) }
+{
+    let x = mark_words(g.kind, Side::X);
+    let y = mark_words(g.kind, Side::Y);
+    put_marks(alloc, lines, x, y, p, g.points())
+}
+
+/// Adds what is said of a game, with the marks that are seen at a position.
 pub(crate) fn put_board(
     alloc: Global,
     lines: &mut Vec<Text>,
     look: Look,
     g: &Game,
+    p: &Position,
 ) -> Result<(), Memory>
-    ensures { OnOk result (lines.new.items ≡ lines.old.items ++ board_lines look g.now) }
+    ensures { OnOk result (lines.new.items ≡ lines.old.items ++ board_lines look g.now p.now) }
 {
-    if g.bias > 1 {
-        lines.push(bias_line(alloc, g.kind, g.bias)?)?;
-    }
-    put_line(alloc, lines, marks_line(g.kind))?;
+    put_bias(alloc, lines, g)?;
+    put_game_marks(alloc, lines, g, p)?;
     lines.push(size_line(alloc, look.numbers, &g.field)?)?;
     put_field_line(alloc, lines, look.lines, &g.field)
 }
@@ -169,7 +217,7 @@ fn put_position(
         (lines.new.items ≡ lines.old.items ++ position_lines look g.now p.now) }
 {
     lines.push(turn_line(alloc, g.kind, p)?)?;
-    put_board(alloc, lines, look, g)
+    put_board(alloc, lines, look, g, p)
 }
 
 /// Returns what is said of a game and a position, if the legend says everything.

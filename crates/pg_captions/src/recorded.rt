@@ -78,7 +78,7 @@ pub fn moves_legend(
         Legend::OfBody => put_order(alloc, &mut lines, moves)?,
         Legend::Whole => {
             lines.push(stage_line(alloc, g.kind, p, over)?)?;
-            put_board(alloc, &mut lines, look, g)?;
+            put_board(alloc, &mut lines, look, g, p)?;
             put_order(alloc, &mut lines, moves)?;
         }
     }

@@ -1,7 +1,8 @@
 //! Titles and legends of connectivity games and of claims.
 ghost use Rattle.std.specs.Prelude.{◌≡◌, ◌++◌, ◌∷◌, [], IfOk, OnOk, codes, false, length};
-ghost use Rattle.pg_captions.specs.Prelude.{decimal, marks_at};
-ghost use Rattle.pg_captions.specs.Legends.{graph_line, sets_lines, turn_line};
+ghost use Rattle.pg_captions.specs.Prelude.{decimal, edge_count, marks_at};
+ghost use Rattle.pg_captions.specs.Marks.{marks_lines, seen_sets};
+ghost use Rattle.pg_captions.specs.Legends.{graph_line, sets_lines};
 ghost use Rattle.pg_captions.specs.SpanLegends.{first_lines, span_by, span_claim_lines};
 ghost use Rattle.pg_captions.specs.SpanLegends.{span_game_by};
 ghost use Rattle.pg_captions.specs.SpanLegends.{span_lines, span_position_lines, span_said_by};
@@ -11,11 +12,12 @@ ghost use Rattle.pg_base.specs.declared.goal.Goal.TheVariants.{Win};
 ghost use Rattle.pg_base.specs.declared.kind.Kind.TheVariants.{MakerBreaker};
 
 use crate::body_words::put_sets_lines;
-use crate::legend::{claim_line, graph_line, put_fault_lines, turn_line};
+use crate::legend::{claim_line, graph_line, put_fault_lines, put_turn};
 use crate::look::{Legend, Look, seen_at};
+use crate::marks::{put_if, put_marks, seen_sets};
 use crate::text::{Text, Texts};
 use crate::words::{put_line, put_result};
-use pg_base::{Goal, Kind, Memory, Side};
+use pg_base::{Goal, Kind, Memory, PointSet, Side};
 use pg_game::Position;
 use pg_graph::Graph;
 use pg_span::{SpanBody, SpanClaim, SpanGame};
@@ -64,15 +66,6 @@ pub fn span_title(alloc: Global, side: Side, fault: Option<u8>) -> Result<Text, 
     }
 }
 
-/// Adds who is to move.
-fn put_turn(alloc: Global, lines: &mut Vec<Text>, p: &Position) -> Result<(), Memory>
-    ensures { OnOk result
-        (lines.new.items ≡ lines.old.items ++ turn_line MakerBreaker p.now ∷ []) }
-{
-    lines.push(turn_line(alloc, Kind::MakerBreaker, p)?)?;
-    Ok(())
-}
-
 /// How many vertices and edges there are.
 fn size_line(alloc: Global, numbers: bool, graph: &Graph) -> Result<Text, Memory>
     ensures { IfOk result
@@ -97,6 +90,28 @@ fn put_graph_line(
     Ok(())
 }
 
+/// Adds how the edges of the two sides look, if they are seen.
+fn put_span_marks(
+    alloc: Global,
+    lines: &mut Vec<Text>,
+    g: &SpanGame,
+    p: &Position,
+) -> Result<(), Memory>
+    ensures { OnOk result
+        (lines.new.items ≡ lines.old.items ++ marks_lines
+        (codes "thick: Maker's edges") (codes "dotted: Breaker's edges") p.now
+        (edge_count g.now.graph)) }
+{
+    put_marks(
+        alloc,
+        lines,
+        "thick: Maker's edges",
+        "dotted: Breaker's edges",
+        p,
+        g.graph.edge_count(),
+    )
+}
+
 /// Adds what is said of a game and a position.
 fn put_position(
     alloc: Global,
@@ -108,43 +123,64 @@ fn put_position(
     ensures { OnOk result
         (lines.new.items ≡ lines.old.items ++ span_position_lines look g.now p.now) }
 {
-    put_turn(alloc, lines, p)?;
-    put_line(alloc, lines, "thick: Maker's edges; dotted: Breaker's")?;
+    put_turn(alloc, lines, Kind::MakerBreaker, p)?;
+    put_span_marks(alloc, lines, g, p)?;
     put_graph_line(alloc, lines, look.numbers, &g.graph)?;
     Ok(())
 }
 
-/// Adds that an edge is claimed first, if one is.
-fn put_first_line(alloc: Global, lines: &mut Vec<Text>, first: Option<u16>) -> Result<(), Memory>
-    ensures { OnOk result (lines.new.items ≡ lines.old.items ++ first_lines first) }
+/// Adds that an edge is claimed first, if one of the game's is.
+fn put_first_line(
+    alloc: Global,
+    lines: &mut Vec<Text>,
+    n: u16,
+    first: Option<u16>,
+) -> Result<(), Memory>
+    ensures { OnOk result (lines.new.items ≡ lines.old.items ++ first_lines n first) }
 {
-    match first {
-        Some(_) => put_line(
-            alloc,
-            lines,
-            "1 in a ring: the edge that Maker claims first;",
-        ),
-        None => Ok(()),
-    }
+    let Some(v) = first else {
+        return Ok(());
+    };
+    put_if(
+        alloc,
+        lines,
+        v < n,
+        "1 in a ring: the edge that Maker claims first;",
+    )
 }
 
 /// Adds what trees are.
-fn put_trees_lines(alloc: Global, lines: &mut Vec<Text>, first: Option<u16>) -> Result<(), Memory>
+fn put_trees_lines(
+    alloc: Global,
+    lines: &mut Vec<Text>,
+    n: u16,
+    first: Option<u16>,
+    a1: &PointSet,
+    a2: &PointSet,
+) -> Result<(), Memory>
     ensures { OnOk result
         (lines.new.items
-        ≡ lines.old.items ++ (first_lines first
-        ++ sets_lines false (codes "each set joins all vertices"))) }
+        ≡ lines.old.items ++ (first_lines n first
+        ++ sets_lines (seen_sets false n a1.now a2.now) (codes "each set joins all vertices"))) }
 {
-    put_first_line(alloc, lines, first)?;
-    put_sets_lines(alloc, lines, false, "each set joins all vertices")
+    put_first_line(alloc, lines, n, first)?;
+    let seen = seen_sets(false, n, a1, a2);
+    put_sets_lines(alloc, lines, seen, "each set joins all vertices")
 }
 
 /// Adds what a body names.
-fn put_span_lines(alloc: Global, lines: &mut Vec<Text>, body: &SpanBody) -> Result<(), Memory>
-    ensures { OnOk result (lines.new.items ≡ lines.old.items ++ span_lines body.now) }
+fn put_span_lines(
+    alloc: Global,
+    lines: &mut Vec<Text>,
+    g: &SpanGame,
+    body: &SpanBody,
+) -> Result<(), Memory>
+    ensures { OnOk result (lines.new.items ≡ lines.old.items ++ span_lines g.now body.now) }
 {
     match body {
-        SpanBody::Trees { first, .. } => put_trees_lines(alloc, lines, *first),
+        SpanBody::Trees { first, a1, a2 } => {
+            put_trees_lines(alloc, lines, g.graph.edge_count(), *first, a1, a2)
+        }
         SpanBody::Parts(_) => {
             put_line(alloc, lines, "in rings: the numbers of the vertices' parts")
         }
@@ -167,7 +203,7 @@ fn put_claim(
     let kind = Kind::MakerBreaker;
     lines.push(claim_line(alloc, kind, claim.turn, claim.side, Goal::Win)?)?;
     put_position(alloc, lines, look, g, p)?;
-    put_span_lines(alloc, lines, &claim.body)
+    put_span_lines(alloc, lines, g, &claim.body)
 }
 
 /// Adds as much of it as the legend says.
@@ -186,7 +222,7 @@ fn put_said(
 {
     match look.legend {
         Legend::Absent => Ok(()),
-        Legend::OfBody => put_span_lines(alloc, lines, &claim.body),
+        Legend::OfBody => put_span_lines(alloc, lines, g, &claim.body),
         Legend::Whole => put_claim(alloc, lines, look, g, claim, p),
     }
 }

@@ -3,6 +3,8 @@ pub use Rattle.pg_base.specs.Side.{is_same_side, other}
 pub use Rattle.pg_base.specs.Texts.{Bytes}
 pub use Rattle.pg_base.specs.declared.score.Score.{Score}
 pub use Rattle.pg_base.specs.declared.side.Side.{Side}
+pub use Rattle.pg_characters.specs.Names.{point_name}
+pub use Rattle.pg_characters.specs.declared.shown.Look.{Look}
 pub use Rattle.pg_files.specs.Views.{entry}
 pub use Rattle.pg_game.specs.Game.{IsPosition, after, bias_of, lowest_free, point_count, start}
 unfoldable pub use Rattle.pg_game.specs.Game.{free_points, is_over}
@@ -48,10 +50,8 @@ pub use Rattle.pg_sessions.specs.Review.{IsGameAt}
 pub use Rattle.pg_settle.specs.Budgets.{IsBudget}
 pub use Rattle.pg_settle.specs.declared.budget.Budget.{Budget}
 pub use Rattle.pg_settle.specs.declared.finding.Outcome.{Outcome}
-pub use Rattle.pg_table.specs.Names.{point_name}
 pub use Rattle.pg_table.specs.Reply.{read_reply}
 pub use Rattle.pg_table.specs.declared.reply.Reply.{Reply}
-pub use Rattle.pg_table.specs.declared.shown.Look.{Look}
 pub use Rattle.pg_talk.specs.Done.{Changes, Does, Done, End, Failed, Finished, Follows, Starved}
 pub use Rattle.pg_talk.specs.Done.{Stops, stop_end, talk}
 pub use Rattle.pg_talk.specs.Halts.{BothCauses}

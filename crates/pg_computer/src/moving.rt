@@ -9,12 +9,12 @@ use crate::choosing::choose;
 use crate::points::is_side;
 use crate::words::taken_text;
 use pg_base::Side;
+use pg_characters::Look;
 use pg_game::{Game, Judge};
 use pg_io::{Console, Stop};
 use pg_playing::{shown_of, shown_text};
 use pg_record::Session;
 use pg_settle::{Budget, Finder};
-use pg_table::Look;
 use pg_talk::say_text;
 use std::alloc::Global;
 

@@ -8,12 +8,12 @@ ghost use Rattle.pg_computer.specs.Versus.{PlaysVersus, Versus};
 use crate::dialogue::play_to_the_end;
 use crate::moving::Table;
 use pg_base::Side;
+use pg_characters::Look;
 use pg_game::{Game, Judge};
 use pg_io::{Console, Files};
 use pg_playing::{store, turned_to};
 use pg_record::Session;
 use pg_settle::{Budget, Finder};
-use pg_table::Look;
 use pg_talk::{Halt, open_game};
 use std::alloc::Global;
 

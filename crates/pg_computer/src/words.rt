@@ -5,8 +5,8 @@ ghost use Rattle.pg_computer.specs.Words.{proof_text, taken_text};
 
 use crate::choice::Choice;
 use pg_base::Memory;
+use pg_characters::put_name;
 use pg_game::Game;
-use pg_table::put_name;
 use std::alloc::Global;
 
 /// Whether the point is proved to keep the value, in words.

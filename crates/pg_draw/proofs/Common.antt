@@ -1,6 +1,6 @@
 -- What the proofs of this crate name of std and of the crates below.
 pub use Rattle.pg_draw.specs.Prelude.{Board, CELL, Course, Graph, Grid, HALF, IsBoard, IsWithin}
-pub use Rattle.pg_draw.specs.Prelude.{Item, Laid, Look}
+pub use Rattle.pg_draw.specs.Prelude.{Item, Laid, Look, Table}
 pub use Rattle.pg_draw.specs.Prelude.{MARGIN, Spot, place_on_chart, spot_or_corner, spots_of}
 pub use Rattle.pg_draw.specs.Prelude.{MAX_ON_RING, Place, ROW, Ring, Scene, TOP, Words, at}
 pub use Rattle.pg_draw.specs.Prelude.{column_of, columns_of, farther, part_of, place_by}

@@ -1,7 +1,8 @@
 -- Points and vertices lie in the picture.
 use Rattle.std.proofs.Common.{◌≡◌, ℕ, zero, suc, ◌+◌, ◌*◌, ◌-◌, ◌/◌, ◌%◌, ◌<◌, ◌≤◌, List, [], ◌∷◌}
 use Rattle.std.proofs.Common.{inl, inr, arith, subst}
-use Rattle.std.specs.Prelude.{Option, Some, None, fold, max, nat_le, slice_get, ◌==◌}
+use Rattle.std.specs.Prelude.{Option, Some, None, fold, length, max, nat_le, slice_get}
+use Rattle.std.specs.Prelude.{◌==◌}
 use Rattle.pg_draw.proofs.Common.{div-lt_iff_lt-mul, mul_comm, cases_Bool, nat_tests, mod_below}
 use Rattle.pg_draw.proofs.Common.{Place, IsBoard, points_on, vertices_on, Board, Grid, Ring, Laid}
 use Rattle.pg_draw.proofs.Common.{Graph, Spot, place_on_chart, spot_or_corner, spots_of}
@@ -9,12 +10,13 @@ use Rattle.pg_draw.proofs.Common.{Look, Scene, farther, place_of_edge, at, colum
 use Rattle.pg_draw.proofs.Common.{part_of}
 use Rattle.pg_draw.proofs.Common.{place_by, place_on_bridge, place_on_circle, place_on_grid}
 use Rattle.pg_draw.proofs.Common.{place_on_ring, radius_of, row_of, CELL, Course, HALF, MARGIN}
-use Rattle.pg_draw.proofs.Common.{MAX_ON_RING, ROW, TOP}
+use Rattle.pg_draw.proofs.Common.{MAX_ON_RING, ROW, TOP, Table}
 use Rattle.pg_draw.specs.Laws.{IsInside, IsUpTo, vertex_place}
 use Rattle.pg_draw.specs.Pictures.{bridge_reach, circle_reach, far_corner, height_of, picture_of}
-use Rattle.pg_draw.specs.Pictures.{reach_by, reach_of, row_reach, spot_farther, width_of}
+use Rattle.pg_draw.specs.Pictures.{reach_by, reach_of, row_reach, spot_farther, table_reach}
+use Rattle.pg_draw.specs.Pictures.{width_of}
 use Rattle.pg_draw.specs.Sheets.{boards_of, columns_for, rows_for}
-use Rattle.pg_draw.specs.Shapes.{courses_of, place_of}
+use Rattle.pg_draw.specs.Shapes.{courses_of, place_in_table, place_of}
 use Rattle.pg_places.proofs.Circles.{part_fits, place_in}
 
 -- ---- cells
@@ -105,7 +107,7 @@ spot_inside (s ∷ spots) far (suc v) wide high =
 
 -- ---- edges
 
--- the middle of an edge, where others reach so far
+-- the place of an edge, where others reach so far
 edge_inside : (courses : List Course) (far : Place) (v : ℕ)
     → ((place_of_edge courses v).across ≤ max MARGIN (fold farther far courses).across)
     × ((place_of_edge courses v).down ≤ max TOP (fold farther far courses).down)
@@ -168,6 +170,14 @@ bridge_inside rows u lt =
     let row = row_low rows u lt in
     (omega (arith, column), omega (arith, row))
 
+-- ---- tables
+
+row_inside : (rows : List (List ℕ)) (target : List ℕ) (v : ℕ)
+    → v < length rows
+    → IsUpTo (table_reach rows target) (place_in_table v)
+unfolding table_reach
+row_inside rows target v lt = (omega arith, omega (arith, lt))
+
 -- ---- boards
 
 -- what is up to the reach of a board is up to its corner
@@ -198,6 +208,8 @@ point_inside (Graph vertices ends terminals bridge) courses v lt =
     let left = some.0 in
     let top = some.1 in
     (omega (arith, across, left), omega (arith, down, top))
+point_inside (Table rows target) courses v lt =
+    further (Table rows target) courses (place_in_table v) (row_inside rows target v lt)
 
 by_inside : (vertices : ℕ) (ends : List (ℕ × ℕ)) (terminals : List ℕ) (bridge : Option ℕ) (u : ℕ)
     → IsBoard (Graph vertices ends terminals bridge)
@@ -218,6 +230,7 @@ vertex_up (Laid chart) courses u fits lt = absurd (omega arith)
 vertex_up (Graph vertices ends terminals bridge) courses u fits lt =
     further (Graph vertices ends terminals bridge) courses (place_by vertices bridge u u)
     (by_inside vertices ends terminals bridge u fits lt)
+vertex_up (Table rows target) courses u fits lt = absurd (omega arith)
 
 -- ---- pictures
 

@@ -3,6 +3,7 @@ use Rattle.std.specs.Prelude.{◌≡◌, ℕ, ◌+◌, ◌≤◌, List, ◌∷�
 use Rattle.std.specs.List.{flat_map}
 use Rattle.pg_picture.specs.declared.paint.Paint.TheVariants as paints
 use Rattle.pg_draw.specs.Prelude.{Picture, Place, Shape, Words, Board, Grid, Ring, Laid, Graph}
+use Rattle.pg_draw.specs.Prelude.{Table}
 use Rattle.pg_draw.specs.Prelude.{Item, Look, Scene, at, place_of_end, HALF, MARGIN, TOP}
 use Rattle.pg_draw.specs.Pictures.{far_corner, legend_shapes, picture_of}
 use Rattle.pg_draw.specs.Shapes.{courses_of, item_shapes, plan_of, vertices_shapes}
@@ -42,3 +43,4 @@ vertex_place (Ring points) vertex = at MARGIN TOP
 vertex_place (Laid chart) vertex = at MARGIN TOP
 vertex_place (Graph vertices ends terminals bridge) vertex =
     place_of_end (plan_of vertices bridge) vertex vertex
+vertex_place (Table rows target) vertex = at MARGIN TOP

@@ -1,18 +1,20 @@
 -- The picture of a scene.
-use Rattle.std.specs.Prelude.{ℕ, ◌+◌, ◌*◌, ◌/◌, max, min, nat_le, Bool, if◌then◌else◌, List, []}
+use Rattle.std.specs.Prelude.{ℕ, ◌+◌, ◌*◌, ◌/◌, max, nat_le, Bool, if◌then◌else◌, List, []}
 use Rattle.std.specs.Prelude.{◌∷◌}
 use Rattle.std.specs.Prelude.{◌++◌, length, Option, Some, None, fold}
 use Rattle.std.specs.List.{flat_map}
 use Rattle.pg_picture.specs.declared.paint.Paint.TheVariants as paints
 use Rattle.pg_draw.specs.Prelude.{Picture, Place, Shape, Words, Board, Grid, Ring, Laid, Graph}
+use Rattle.pg_draw.specs.Prelude.{Table}
 use Rattle.pg_draw.specs.Prelude.{Scene, Spot, place_of_spot, spots_of}
 use Rattle.pg_draw.specs.Prelude.{farthest, at, columns_of, radius_of, Course, APART, CELL, HALF}
 use Rattle.pg_draw.specs.Prelude.{Look, MARGIN, MAX_ON_RING, ROW, TOP, Plan}
-use Rattle.pg_draw.specs.Shapes.{courses_of, item_shapes, plan_of, vertices_shapes}
+use Rattle.pg_draw.specs.Shapes.{courses_of, item_shapes, plan_of, table_right, text_width}
+use Rattle.pg_draw.specs.Shapes.{vertices_shapes, widest}
 use Rattle.pg_draw.specs.Sheets.{boards_of, columns_for, copy_places, rows_for}
 use Rattle.pg_draw.specs.declared.measures.TheConstants.{HEADING_DOWN}
 use Rattle.pg_draw.specs.declared.measures.TheConstants.{HEADING_LETTER, LEADING, LEGEND_LETTER}
-use Rattle.pg_draw.specs.declared.measures.TheConstants.{MAX_COUNTED_LETTERS}
+use Rattle.pg_draw.specs.declared.measures.TheConstants.{ROW_HIGH}
 
 -- ---- how far a board reaches
 
@@ -45,13 +47,18 @@ spot_farther far s = at (max far.across ((place_of_spot s).across + HALF))
 abbrev pub chart_reach : List Spot → Place
 chart_reach spots = fold spot_farther (at (MARGIN + CELL) (TOP + CELL)) spots
 
--- the cells, discs or vertices of a board
+-- a row for each vector and one for the target
+unfoldable pub table_reach : List (List ℕ) → List ℕ → Place
+table_reach rows target = at (table_right rows target) (TOP + CELL + ROW_HIGH * length rows)
+
+-- the cells, discs, vertices or rows of a board
 abbrev pub reach_of : Board → Place
 reach_of (Grid width height) = row_reach width height
 reach_of (Ring points) =
     if nat_le points MAX_ON_RING then circle_reach points else row_reach ROW (points / ROW + 1)
 reach_of (Laid chart) = chart_reach (spots_of chart)
 reach_of (Graph vertices ends terminals bridge) = plan_reach (plan_of vertices bridge)
+reach_of (Table rows target) = table_reach rows target
 
 -- a board with its edges
 abbrev pub far_corner : Board → List Course → Place
@@ -59,14 +66,6 @@ far_corner board courses = at (max (reach_of board).across ((farthest courses).a
     (max (reach_of board).down ((farthest courses).down + HALF))
 
 -- ---- words
-
--- how far words reach whose letters are so wide; of long words the first ones count
-abbrev pub text_width : ℕ → List ℕ → ℕ
-text_width letter words = MARGIN + letter * min (length words) MAX_COUNTED_LETTERS
-
--- how far the widest line of a legend reaches
-abbrev pub widest : List (List ℕ) → ℕ
-widest texts = fold (λ width words. max width (text_width LEGEND_LETTER words)) 0 texts
 
 -- the lines of a legend below a place
 abbrev pub legend_shapes : ℕ → List (List ℕ) → List Shape
@@ -76,8 +75,8 @@ legend_shapes down (line ∷ lines) =
 
 -- ---- scenes
 
--- the heading, the shapes of each item in the order of the items, the vertices, and the legend
--- below that place
+-- the heading, the shapes of each item in the order of the items, the vertices or the frame of a
+-- table, and the legend below that place
 abbrev pub shapes_of : Bool → Scene → List Course → ℕ → List Shape
 shapes_of numbers scene courses bottom = Words (at MARGIN HEADING_DOWN) scene.title paints.Heading
     ∷ flat_map (item_shapes numbers scene.board courses) scene.items
@@ -85,8 +84,8 @@ shapes_of numbers scene courses bottom = Words (at MARGIN HEADING_DOWN) scene.ti
 
 -- how wide a picture is whose board reaches so far: no less than its title and its legend
 abbrev pub width_of : Scene → ℕ → ℕ
-width_of scene across =
-    MARGIN + max (max across (text_width HEADING_LETTER scene.title)) (widest scene.legend)
+width_of scene across = MARGIN
+    + max (max across (text_width HEADING_LETTER scene.title)) (widest LEGEND_LETTER scene.legend)
 
 -- how high a picture is whose board reaches so far
 abbrev pub height_of : Scene → ℕ → ℕ

@@ -1,7 +1,7 @@
 -- The shapes of what is to be seen.
 use Rattle.std.specs.Prelude.{ℕ, ◌+◌, ◌*◌, ◌%◌, Bool, ◌==◌, nat_lt, nat_eq, if◌then◌else◌, List, []}
 use Rattle.std.specs.Prelude.{◌∷◌, ◌++◌, length, Option, Some, None, slice_get, slice_index, codes}
-use Rattle.std.specs.Prelude.{decimal}
+use Rattle.std.specs.Prelude.{decimal, fold, get_or, max, min}
 use Rattle.std.specs.List.{count_by, flat_map, list_any, range_with_len}
 use Rattle.pg_base.specs.declared.side.Side.{Side}
 use Rattle.pg_base.specs.declared.side.Side.TheVariants.{X, Y}
@@ -9,15 +9,16 @@ use Rattle.pg_picture.specs.declared.paint.Paint.{Paint}
 use Rattle.pg_picture.specs.declared.paint.Paint.TheVariants as paints
 use Rattle.pg_draw.specs.Prelude.{Place, Shape, Square, Disc, Stroke, Bow, Words, Board, Grid, Ring}
 use Rattle.pg_draw.specs.Prelude.{Laid, place_on_chart}
-use Rattle.pg_draw.specs.Prelude.{Graph, Item, bend_of, courses_behind, have_same_ends, middle_of}
+use Rattle.pg_draw.specs.Prelude.{Graph, Item, course_of, courses_behind, have_same_ends, place_on}
 use Rattle.pg_draw.specs.Prelude.{place_of_edge, at, lower, lower_right, place_of_end}
 use Rattle.pg_draw.specs.Prelude.{place_on_bridge, place_on_grid, place_on_ring, upper_left}
 use Rattle.pg_draw.specs.Prelude.{upper_right, Course}
-use Rattle.pg_draw.specs.Prelude.{Straight, Bent, Around, CELL, HALF, Plan}
+use Rattle.pg_draw.specs.Prelude.{Straight, Bent, Around, CELL, HALF, MARGIN, Plan, TOP, Table}
 use Rattle.pg_scene.specs.declared.item.Item.TheVariants as items
 use Rattle.pg_scene.specs.declared.item.Set.{Set}
 use Rattle.pg_scene.specs.declared.item.Set.TheVariants as sets
 use Rattle.pg_draw.specs.declared.measures.TheConstants.{BADGE_RADIUS, BADGE_RIGHT, BADGE_UP}
+use Rattle.pg_draw.specs.declared.measures.TheConstants.{CELL_CHILD_DOWN, CELL_CHILD_RADIUS}
 use Rattle.pg_draw.specs.declared.measures.TheConstants.{CELL_MARK_DOWN, CHILD_RADIUS, CORNER_LEFT}
 use Rattle.pg_draw.specs.declared.measures.TheConstants.{CORNER_UP, CROSS_BOTTOM, CROSS_LEFT}
 use Rattle.pg_draw.specs.declared.measures.TheConstants.{CROSS_RIGHT, CROSS_TOP, DISC_MARK_DOWN}
@@ -26,6 +27,10 @@ use Rattle.pg_draw.specs.declared.measures.TheConstants.{EDGE_NOTE_DOWN, LANES, 
 use Rattle.pg_draw.specs.declared.measures.TheConstants.{LANE_DOWN, LINE_DOT_RADIUS, LOOP_RADIUS}
 use Rattle.pg_draw.specs.declared.measures.TheConstants.{MEMBER_RADIUS, NOTE_DOWN, PAIR_DOT_RADIUS}
 use Rattle.pg_draw.specs.declared.measures.TheConstants.{PLATE_RADIUS, POINT_RADIUS, VERTEX_RADIUS}
+use Rattle.pg_draw.specs.declared.measures.TheConstants.{FIRST_DOWN, HALF_ROW, SIGN_LETTER}
+use Rattle.pg_draw.specs.declared.measures.TheConstants.{MAX_COUNTED_LETTERS, ROW_HIGH, ROW_MARK}
+use Rattle.pg_draw.specs.declared.measures.TheConstants.{ROW_NUMBER, ROW_RADIUS, ROW_SIGNS}
+use Rattle.pg_draw.specs.declared.measures.TheConstants.{ROW_WORD, SECOND_DOWN}
 
 -- ---- paints
 
@@ -67,15 +72,17 @@ courses_of (Grid width height) = []
 courses_of (Ring points) = []
 courses_of (Laid chart) = []
 courses_of (Graph vertices ends terminals bridge) = courses_behind (plan_of vertices bridge) [] ends
-
--- the place of a point: the middle of its cell, of its disc, or of its edge
-abbrev pub place_of : Board → List Course → ℕ → Place
-place_of (Grid width height) courses point = place_on_grid width point
-place_of (Ring points) courses point = place_on_ring points point
-place_of (Laid chart) courses point = place_on_chart chart point
-place_of (Graph vertices ends terminals bridge) courses point = place_of_edge courses point
+courses_of (Table rows target) = []
 
 -- ---- words
+
+-- how far words reach whose letters are so wide; of long words the first ones count
+abbrev pub text_width : ℕ → List ℕ → ℕ
+text_width letter words = MARGIN + letter * min (length words) MAX_COUNTED_LETTERS
+
+-- how far the widest of these texts reaches
+abbrev pub widest : ℕ → List (List ℕ) → ℕ
+widest letter texts = fold (λ width words. max width (text_width letter words)) 0 texts
 
 -- a number in digits
 abbrev pub number_at : Place → ℕ → Shape
@@ -90,14 +97,15 @@ unfoldable pub note_shapes : Place → List ℕ → Paint → List Shape
 note_shapes place words paint =
     Disc place PLATE_RADIUS paints.Plate ∷ Words place words paint ∷ []
 
--- the number of an edge over its middle, if there are to be numbers
+-- the number of an edge over it, if there are to be numbers
 abbrev pub note_if : Bool → Place → ℕ → List Shape
 note_if numbers place number =
     if numbers then note_shapes place (decimal number) paints.Number else []
 
 -- ---- points
 
--- the number of a cell in its corner, if there are to be numbers
+-- the number of a cell at its upper border, if there are to be numbers: it ends before the column
+-- through the middle, and above the diagonal from the corner
 abbrev pub corner_if : Bool → Place → ℕ → List Shape
 corner_if numbers place point = if numbers
     then Words (upper_left place CORNER_LEFT CORNER_UP) (decimal point) paints.Corner ∷ []
@@ -122,8 +130,8 @@ disc_shapes numbers place point mark = Disc place POINT_RADIUS (point_paint mark
 
 -- the shape of an edge: a stroke, a bow, or a ring for a loop
 abbrev pub course_shape : Course → Paint → Shape
-course_shape (Straight from to) paint = Stroke from to paint
-course_shape (Bent from bend to) paint = Bow from bend to paint
+course_shape (Straight from to place) paint = Stroke from to paint
+course_shape (Bent from bend to place) paint = Bow from bend to paint
 course_shape (Around centre) paint = Disc centre LOOP_RADIUS paint
 
 -- the shape of an edge, where there is one
@@ -131,12 +139,86 @@ abbrev pub course_shapes : Option Course → Paint → List Shape
 course_shapes None paint = []
 course_shapes (Some course) paint = course_shape course paint ∷ []
 
--- an edge, with its number over its middle
+-- an edge, with its number over it
 unfoldable pub edge_shapes : Bool → List Course → ℕ → Paint → List Shape
 edge_shapes numbers courses edge paint = course_shapes (slice_get courses edge) paint
     ++ note_if numbers (place_of_edge courses edge) edge
 
--- a point with its mark: a cell, a disc or an edge
+-- ---- tables
+
+-- a place in a row of a table, whose rows are numbered from 0
+abbrev pub place_in_row : ℕ → ℕ → Place
+place_in_row row across = at across (TOP + HALF_ROW + ROW_HIGH * row)
+
+-- the middle of the mark of a row
+abbrev pub place_in_table : ℕ → Place
+place_in_table row = place_in_row row (MARGIN + ROW_MARK)
+
+-- how far signs reach
+abbrev pub signs_end : List ℕ → ℕ
+signs_end signs = ROW_SIGNS + text_width SIGN_LETTER signs
+
+-- how far a table reaches to the right
+abbrev pub table_right : List (List ℕ) → List ℕ → ℕ
+table_right rows target =
+    ROW_SIGNS + max (widest SIGN_LETTER rows) (text_width SIGN_LETTER target) + HALF_ROW
+
+-- the signs of a row
+abbrev pub signs_shape : ℕ → List ℕ → Shape
+signs_shape row signs = Words (place_in_row row (MARGIN + ROW_SIGNS)) signs paints.Legend
+
+-- the signs of the row of a vector, if there is one of that number
+abbrev pub signs_shapes : List (List ℕ) → ℕ → List Shape
+signs_shapes rows row =
+    if nat_lt row (length rows) then signs_shape row (get_or rows row []) ∷ [] else []
+
+-- the row of a vector: its mark, its number and its signs
+unfoldable pub row_shapes : Bool → List (List ℕ) → ℕ → Option Side → List Shape
+row_shapes numbers rows row mark = Disc (place_in_table row) ROW_RADIUS (point_paint mark)
+    ∷ number_if numbers (place_in_row row (MARGIN + ROW_NUMBER)) row
+    ++ (mark_shapes (place_in_table row) mark ++ signs_shapes rows row)
+
+-- how far below the middle of a row the stroke of a set is
+abbrev pub set_down : Set → ℕ
+set_down sets.First = FIRST_DOWN
+set_down sets.Second = SECOND_DOWN
+
+-- a stroke below the signs of a row, which is in a set
+unfoldable pub underline : ℕ → List ℕ → Set → Shape
+underline row signs set = Stroke (lower (place_in_row row (MARGIN + ROW_SIGNS)) (set_down set))
+    (lower (place_in_row row (signs_end signs)) (set_down set)) (set_paint set)
+
+-- the same for the row of a vector, if there is one of that number
+abbrev pub underlines : List (List ℕ) → ℕ → Set → List Shape
+underlines rows row set =
+    if nat_lt row (length rows) then underline row (get_or rows row []) set ∷ [] else []
+
+-- a table so wide of so many rows and the target's: lines around it, and one above the last row
+unfoldable pub frame_shapes : ℕ → ℕ → List Shape
+frame_shapes right rows = Stroke (at MARGIN TOP) (at right TOP) paints.Line
+    ∷ Stroke (at MARGIN (TOP + ROW_HIGH * rows)) (at right (TOP + ROW_HIGH * rows)) paints.Line
+    ∷ Stroke (at MARGIN (TOP + ROW_HIGH * (rows + 1))) (at right (TOP + ROW_HIGH * (rows + 1)))
+    paints.Line
+    ∷ Stroke (at MARGIN TOP) (at MARGIN (TOP + ROW_HIGH * (rows + 1))) paints.Line
+    ∷ Stroke (at right TOP) (at right (TOP + ROW_HIGH * (rows + 1))) paints.Line ∷ []
+
+-- the frame of a table, and the row of its target
+abbrev pub table_shapes : List (List ℕ) → List ℕ → List Shape
+table_shapes rows target = frame_shapes (table_right rows target) (length rows)
+    ++ Words (place_in_row (length rows) (MARGIN + ROW_WORD)) (codes "target") paints.Number
+    ∷ signs_shape (length rows) target ∷ []
+
+-- ---- points of all boards
+
+-- the place of a point: the middle of its cell or disc, the place of its edge, or its row's mark
+abbrev pub place_of : Board → List Course → ℕ → Place
+place_of (Grid width height) courses point = place_on_grid width point
+place_of (Ring points) courses point = place_on_ring points point
+place_of (Laid chart) courses point = place_on_chart chart point
+place_of (Graph vertices ends terminals bridge) courses point = place_of_edge courses point
+place_of (Table rows target) courses point = place_in_table point
+
+-- a point with its mark: a cell, a disc, an edge or a row
 abbrev pub point_shapes : Bool → Board → List Course → ℕ → Option Side → List Shape
 point_shapes numbers (Grid width height) courses point mark =
     cell_shapes numbers (place_on_grid width point) point mark
@@ -146,6 +228,7 @@ point_shapes numbers (Laid chart) courses point mark =
     disc_shapes numbers (place_on_chart chart point) point mark
 point_shapes numbers (Graph vertices ends terminals bridge) courses point mark =
     edge_shapes numbers courses point (edge_paint mark)
+point_shapes numbers (Table rows target) courses point mark = row_shapes numbers rows point mark
 
 -- ---- lines and pairs
 
@@ -184,7 +267,7 @@ weight_shapes place weight = note_shapes (lower place NOTE_DOWN) weight paints.W
 
 -- ---- sets
 
--- a member of a set: its edge once more, or a ring around the point
+-- a member of a set: its edge once more, a ring around the point, or a stroke below its row
 abbrev pub member_shapes : Bool → Board → List Course → ℕ → Set → List Shape
 member_shapes numbers (Grid width height) courses point set =
     Disc (place_on_grid width point) MEMBER_RADIUS (set_paint set) ∷ []
@@ -194,17 +277,16 @@ member_shapes numbers (Laid chart) courses point set =
     Disc (place_on_chart chart point) MEMBER_RADIUS (set_paint set) ∷ []
 member_shapes numbers (Graph vertices ends terminals bridge) courses point set =
     edge_shapes numbers courses point (set_paint set)
+member_shapes numbers (Table rows target) courses point set = underlines rows point set
 
 -- the further edge between two terminals: bent further than all edges between them, and dashed
 unfoldable pub further_edge_shapes : Plan → List (ℕ × ℕ) → ℕ × ℕ → Set → List Shape
 further_edge_shapes plan ends terminals set =
-    let from = place_of_end plan terminals.0 terminals.1 in
-    let to = place_of_end plan terminals.1 terminals.0 in
-    let bend = bend_of from to (count_by (have_same_ends terminals) ends + 1) in
-    Bow from bend to (set_paint set) ∷ Bow from bend to paints.Extra
-    ∷ note_shapes (middle_of (Bent from bend to)) (codes "e") paints.Number
+    let course = course_of plan (count_by (have_same_ends terminals) ends + 1) terminals in
+    course_shape course (set_paint set) ∷ course_shape course paints.Extra
+    ∷ note_shapes (place_on course) (codes "e") paints.Number
 
--- the further edge between the terminals of a graph that has two
+-- the further edge between the terminals of a graph that has two, or a stroke below the target
 abbrev pub extra_shapes : Board → Set → List Shape
 extra_shapes (Grid width height) set = []
 extra_shapes (Ring points) set = []
@@ -215,6 +297,7 @@ extra_shapes (Graph vertices ends terminals bridge) set = if length terminals ==
       slice_index terminals 1,
     ) set
     else []
+extra_shapes (Table rows target) set = underline (length rows) target set ∷ []
 
 -- ---- what nodes say of points
 
@@ -232,22 +315,30 @@ part_shapes (Ring points) vertex part = []
 part_shapes (Laid chart) vertex part = []
 part_shapes (Graph vertices ends terminals bridge) vertex part =
     badge_shapes (place_of_end (plan_of vertices bridge) vertex vertex) part (pair_paint part)
+part_shapes (Table rows target) vertex part = []
 
 -- a ring around a place, with the node that follows in it
 unfoldable pub ring_shapes : Place → ℕ → ℕ → ℕ → Paint → List Shape
 ring_shapes place radius down child paint =
     Disc place radius paint ∷ note_shapes (lower place down) (decimal child) paint
 
--- a ring around a point: its number over its middle, if it is an edge, stays clear
+-- a ring in a cell, below the cell's number, with the node that follows in it
+unfoldable pub cell_ring_shapes : Place → ℕ → Paint → List Shape
+cell_ring_shapes place child paint = Disc (lower place CELL_CHILD_DOWN) CELL_CHILD_RADIUS paint
+    ∷ note_shapes (lower place NOTE_DOWN) (decimal child) paint
+
+-- a ring around a point: its number, if it is an edge or a cell, stays clear
 abbrev pub reached_shapes : Board → List Course → ℕ → ℕ → Paint → List Shape
 reached_shapes (Grid width height) courses point child paint =
-    ring_shapes (place_on_grid width point) CHILD_RADIUS NOTE_DOWN child paint
+    cell_ring_shapes (place_on_grid width point) child paint
 reached_shapes (Ring points) courses point child paint =
     ring_shapes (place_on_ring points point) CHILD_RADIUS NOTE_DOWN child paint
 reached_shapes (Laid chart) courses point child paint =
     ring_shapes (place_on_chart chart point) CHILD_RADIUS NOTE_DOWN child paint
 reached_shapes (Graph vertices ends terminals bridge) courses point child paint =
     ring_shapes (place_of_edge courses point) EDGE_CHILD_RADIUS EDGE_NOTE_DOWN child paint
+reached_shapes (Table rows target) courses point child paint =
+    ring_shapes (place_in_table point) CHILD_RADIUS NOTE_DOWN child paint
 
 -- a cross beside the heading
 unfoldable pub fault_shapes : List Shape
@@ -298,10 +389,11 @@ vertex_shapes numbers plan terminals vertex =
     (vertex_paint terminals vertex)
     ∷ number_if numbers (place_of_end plan vertex vertex) vertex
 
--- the vertices of a board
+-- the vertices of a board, or the frame of a table with the row of its target
 abbrev pub vertices_shapes : Bool → Board → List Shape
 vertices_shapes numbers (Grid width height) = []
 vertices_shapes numbers (Ring points) = []
 vertices_shapes numbers (Laid chart) = []
 vertices_shapes numbers (Graph vertices ends terminals bridge) =
     flat_map (vertex_shapes numbers (plan_of vertices bridge) terminals) (range_with_len 0 vertices)
+vertices_shapes numbers (Table rows target) = table_shapes rows target

@@ -3,6 +3,7 @@ ghost use Rattle.std.specs.Prelude.{◌≡◌, IfOk};
 ghost use Rattle.pg_draw.specs.Prelude.{IsBoard, IsWithin};
 ghost use Rattle.pg_draw.specs.Shapes.{courses_of, place_of};
 
+use crate::table::place_in_table;
 use pg_base::Memory;
 use pg_picture::Place;
 use pg_places::{Courses, MAX_MIDDLE_REACH, Plan, place_on_chart, place_on_grid, place_on_ring};
@@ -41,5 +42,6 @@ pub(crate) fn place_of(board: &Board, courses: &Courses, point: u16) -> Place
         Board::Ring { points } => place_on_ring(*points, point),
         Board::Laid { chart } => place_on_chart(chart, point),
         Board::Graph { .. } => courses.place_of(point),
+        Board::Table { .. } => place_in_table(point),
     }
 }

@@ -8,10 +8,12 @@ ghost use Rattle.pg_captions.specs.declared.lines.TheConstants.{MAX_LEGEND_LINES
 use crate::boards::courses_of;
 use crate::items::push_items;
 use crate::measures::{
-    HEADING_DOWN, HEADING_LETTER, LEADING, MAX_CORNER_REACH, MAX_PICTURE_REACH, VERTEX_RADIUS,
+    HEADING_DOWN, HEADING_LETTER, LEADING, LEGEND_LETTER, MAX_CORNER_REACH, MAX_PICTURE_REACH,
+    VERTEX_RADIUS,
 };
 use crate::sheet::{boards_of, columns_for, copy_places, rows_for, times};
 use crate::size::{far_corner, text_width, widest};
+use crate::table::push_table;
 use crate::words::{push_number_if, push_words, text_of};
 use pg_base::Memory;
 use pg_captions::{Look, Text};
@@ -94,7 +96,7 @@ fn push_each_vertex(
     Ok(())
 }
 
-/// Adds the vertices of a board.
+/// Adds the vertices of a board, or the frame of a table with the row of its target.
 fn push_vertices(
     alloc: Global,
     shapes: &mut Vec<Shape>,
@@ -105,6 +107,9 @@ fn push_vertices(
     ensures { OnOk result
         (shapes.new.items ≡ shapes.old.items ++ vertices_shapes numbers board.now) }
 {
+    if let Board::Table { rows, target } = board {
+        return push_table(alloc, shapes, rows.as_slice(), target.as_str());
+    }
     let Board::Graph {
         vertices,
         terminals,
@@ -191,7 +196,7 @@ fn width_of(scene: &Scene, across: u32) -> u32
     ensures small { result < MAX_PICTURE_REACH }
 {
     let title = text_width(HEADING_LETTER, scene.title.as_str());
-    let legend = widest(scene.legend.as_slice());
+    let legend = widest(LEGEND_LETTER, scene.legend.as_slice());
     MARGIN + across.max(title).max(legend)
 }
 
@@ -206,10 +211,11 @@ fn height_of(scene: &Scene, down: u32) -> u32
 }
 
 /// Returns the picture of a scene: its title, the shapes of each item in the order of the items,
-/// the vertices of a graph, and the legend. The board is within the limits of games, and the legend
-/// has at most `MAX_LEGEND_LINES` lines. `look` says whether there are numbers, at what width the
-/// picture is shown (a unit is a pixel if it doesn't say that), and how many boards are on the
-/// sheet: one if it doesn't say that, and at most `MAX_BOARDS`, three in a row.
+/// the vertices of a graph or the frame of a table, and the legend. The board is within the limits
+/// of games, and the legend has at most `MAX_LEGEND_LINES` lines. `look` says whether there are
+/// numbers, at what width the picture is shown (a unit is a pixel if it doesn't say that), and how
+/// many boards are on the sheet: one if it doesn't say that, and at most `MAX_BOARDS`, three in a
+/// row.
 ///
 /// # Errors
 ///

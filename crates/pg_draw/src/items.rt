@@ -1,25 +1,27 @@
 //! The shapes of items.
 ghost use Rattle.std.specs.Prelude.{◌≡◌, ◌≤◌, ◌++◌, OnOk, length};
 ghost use Rattle.pg_draw.specs.Prelude.{flat_map, IsBoard, MAX_EDGES, IsPlan, IsWithin};
-ghost use Rattle.pg_draw.specs.Shapes.{badge_shapes, extra_shapes, fault_shapes, item_shapes};
+ghost use Rattle.pg_draw.specs.Shapes.{badge_shapes, cell_ring_shapes, extra_shapes, fault_shapes};
+ghost use Rattle.pg_draw.specs.Shapes.{item_shapes};
 ghost use Rattle.pg_draw.specs.Shapes.{lane_place, line_shapes, member_shapes, pair_shapes};
 ghost use Rattle.pg_draw.specs.Shapes.{part_shapes, place_in, reached_shapes, ring_shapes};
 ghost use Rattle.pg_draw.specs.Shapes.{further_edge_shapes, weight_shapes};
 
 use crate::boards::place_of;
-use crate::marks::{push_edge, push_point};
+use crate::marks::{course_shape, push_edge, push_point};
 use crate::measures::{
-    BADGE_RADIUS, BADGE_RIGHT, BADGE_UP, CHILD_RADIUS, CROSS_BOTTOM, CROSS_LEFT, CROSS_RIGHT,
-    CROSS_TOP, EDGE_CHILD_RADIUS, EDGE_NOTE_DOWN, LANE_ACROSS, LANE_DOWN, LANES, LINE_DOT_RADIUS,
-    MEMBER_RADIUS, NOTE_DOWN, PAIR_DOT_RADIUS,
+    BADGE_RADIUS, BADGE_RIGHT, BADGE_UP, CELL_CHILD_DOWN, CELL_CHILD_RADIUS, CHILD_RADIUS,
+    CROSS_BOTTOM, CROSS_LEFT, CROSS_RIGHT, CROSS_TOP, EDGE_CHILD_RADIUS, EDGE_NOTE_DOWN,
+    LANE_ACROSS, LANE_DOWN, LANES, LINE_DOT_RADIUS, MEMBER_RADIUS, NOTE_DOWN, PAIR_DOT_RADIUS,
 };
 use crate::paints::{pair_paint, set_paint, step_paint};
+use crate::table::{push_row_underline, push_underline};
 use crate::words::{push_note, push_number, push_number_note, push_plate};
 use pg_base::Memory;
 use pg_captions::Text;
 use pg_picture::{Paint, Place, Shape};
 use pg_places::{
-    Course, Courses, MAX_MIDDLE_REACH, Plan, bend_of, lower, lower_right, middle_of, parallels,
+    Courses, MAX_MIDDLE_REACH, Plan, course_of, lower, lower_right, parallels, place_on,
     upper_left, upper_right,
 };
 use pg_scene::{Board, Item, Set};
@@ -135,6 +137,9 @@ fn push_member(
     if let Board::Graph { .. } = board {
         return push_edge(alloc, shapes, numbers, courses, point, paint);
     }
+    if let Board::Table { rows, .. } = board {
+        return push_row_underline(shapes, rows.as_slice(), point, set);
+    }
     let centre = place_of(board, courses, point);
     shapes.push(Shape::Disc {
         centre,
@@ -159,31 +164,21 @@ fn push_further_edge(
     ensures { OnOk result
         (shapes.new.items ≡ shapes.old.items ++ further_edge_shapes plan ends.now terminals set) }
 {
-    let from = plan.place_of_end(terminals.0, terminals.1);
-    let to = plan.place_of_end(terminals.1, terminals.0);
-    let bend = bend_of(from, to, parallels(ends, terminals) + 1);
-    let paint = set_paint(set);
-    shapes.push(Shape::Bow {
-        from,
-        bend,
-        to,
-        paint,
-    })?;
-    shapes.push(Shape::Bow {
-        from,
-        bend,
-        to,
-        paint: Paint::Extra,
-    })?;
-    let middle = middle_of(Course::Bent { from, bend, to });
-    push_note(alloc, shapes, middle, "e", Paint::Number)
+    let course = course_of(plan, parallels(ends, terminals) + 1, terminals);
+    shapes.push(course_shape(course, set_paint(set)))?;
+    shapes.push(course_shape(course, Paint::Extra))?;
+    push_note(alloc, shapes, place_on(course), "e", Paint::Number)
 }
 
-/// Adds the further edge between the terminals of a board, where it has two.
+/// Adds the further edge between the terminals of a board, where it has two, or a stroke below the
+/// target of a table.
 fn push_extra(alloc: Global, shapes: &mut Vec<Shape>, board: &Board, set: Set) -> Result<(), Memory>
     requires { IsBoard board.now }
     ensures { OnOk result (shapes.new.items ≡ shapes.old.items ++ extra_shapes board.now set) }
 {
+    if let Board::Table { rows, target } = board {
+        return push_underline(shapes, rows.as_slice().len() as u16, target.as_str(), set);
+    }
     let Board::Graph {
         vertices,
         ends,
@@ -292,6 +287,28 @@ fn push_ring(
     push_number_note(alloc, shapes, at, child as usize, paint)
 }
 
+/// Adds a ring in the cell of a place, below the cell's number, with the node that follows in it.
+#[tactic(auto, unfolding(crate::specs::Shapes::cell_ring_shapes))]
+fn push_cell_ring(
+    alloc: Global,
+    shapes: &mut Vec<Shape>,
+    place: Place,
+    child: u32,
+    paint: Paint,
+) -> Result<(), Memory>
+    requires { IsWithin MAX_MIDDLE_REACH place }
+    ensures { OnOk result
+        (shapes.new.items ≡ shapes.old.items ++ cell_ring_shapes place child paint) }
+{
+    shapes.push(Shape::Disc {
+        centre: lower(place, CELL_CHILD_DOWN),
+        radius: CELL_CHILD_RADIUS,
+        paint,
+    })?;
+    let at = lower(place, NOTE_DOWN);
+    push_number_note(alloc, shapes, at, child as usize, paint)
+}
+
 /// Adds a ring around a point, with the node that follows in it.
 fn push_reached(
     alloc: Global,
@@ -308,10 +325,8 @@ fn push_reached(
 {
     let place = place_of(board, courses, point);
     match board {
-        Board::Grid { .. } => {
-            push_ring(alloc, shapes, place, CHILD_RADIUS, NOTE_DOWN, child, paint)
-        }
-        Board::Ring { .. } | Board::Laid { .. } => {
+        Board::Grid { .. } => push_cell_ring(alloc, shapes, place, child, paint),
+        Board::Ring { .. } | Board::Laid { .. } | Board::Table { .. } => {
             push_ring(alloc, shapes, place, CHILD_RADIUS, NOTE_DOWN, child, paint)
         }
         Board::Graph { .. } => push_ring(

@@ -10,7 +10,9 @@ mod measures;
 mod paints;
 mod sheet;
 mod size;
+mod table;
 mod words;
 
 pub use drawing::draw;
 pub use measures::MAX_BOARDS;
+pub use table::place_in_table;

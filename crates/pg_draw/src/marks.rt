@@ -10,6 +10,7 @@ use crate::measures::{
     POINT_RADIUS,
 };
 use crate::paints::{edge_paint, point_paint};
+use crate::table::push_row;
 use crate::words::{push_number, push_number_if, push_number_note, push_words};
 use pg_base::{Memory, Side};
 use pg_picture::{Paint, Place, Shape};
@@ -18,7 +19,7 @@ use pg_scene::Board;
 use std::alloc::Global;
 
 /// Adds the letter of the side that has a point.
-fn push_mark(
+pub(crate) fn push_mark(
     alloc: Global,
     shapes: &mut Vec<Shape>,
     at: Place,
@@ -33,7 +34,7 @@ fn push_mark(
     }
 }
 
-/// Adds the number of a cell in its corner, if there are to be numbers.
+/// Adds the number of a cell at its upper border, if there are to be numbers.
 fn push_corner(
     alloc: Global,
     shapes: &mut Vec<Shape>,
@@ -101,12 +102,12 @@ fn push_disc(
 }
 
 /// The shape of an edge.
-fn course_shape(course: Course, paint: Paint) -> Shape
+pub(crate) fn course_shape(course: Course, paint: Paint) -> Shape
     ensures { result ≡ course_shape course paint }
 {
     match course {
-        Course::Straight { from, to } => Shape::Stroke { from, to, paint },
-        Course::Bent { from, bend, to } => Shape::Bow {
+        Course::Straight { from, to, .. } => Shape::Stroke { from, to, paint },
+        Course::Bent { from, bend, to, .. } => Shape::Bow {
             from,
             bend,
             to,
@@ -120,7 +121,7 @@ fn course_shape(course: Course, paint: Paint) -> Shape
     }
 }
 
-/// Adds the number of an edge over its middle, if there are to be numbers.
+/// Adds the number of an edge over it, if there are to be numbers.
 fn push_note_if(
     alloc: Global,
     shapes: &mut Vec<Shape>,
@@ -152,8 +153,8 @@ pub(crate) fn push_edge(
     if let Some(course) = courses.at(edge) {
         shapes.push(course_shape(course, paint))?;
     }
-    let middle = courses.place_of(edge);
-    push_note_if(alloc, shapes, numbers, middle, edge as usize)
+    let place = courses.place_of(edge);
+    push_note_if(alloc, shapes, numbers, place, edge as usize)
 }
 
 /// Adds a point with its mark.
@@ -178,6 +179,9 @@ pub(crate) fn push_point(
         }
         Board::Graph { .. } => {
             push_edge(alloc, shapes, numbers, courses, point, edge_paint(mark))
+        }
+        Board::Table { rows, .. } => {
+            push_row(alloc, shapes, numbers, rows.as_slice(), point, mark)
         }
     }
 }

@@ -15,11 +15,12 @@ pub(crate) const DISC_NUMBER_UP: u32 = 10;
 /// How far below the middle of a disc its mark stands.
 pub(crate) const DISC_MARK_DOWN: u32 = 6;
 
-/// How far left of the middle of a cell its number begins.
-pub(crate) const CORNER_LEFT: u32 = 21;
+/// How far left of the middle of a cell its number ends: so it is between the upper border, the
+/// column through the middle and the diagonal from the corner.
+pub(crate) const CORNER_LEFT: u32 = 2;
 
 /// How far above the middle of a cell its number stands.
-pub(crate) const CORNER_UP: u32 = 15;
+pub(crate) const CORNER_UP: u32 = 19;
 
 /// How far below the middle of a cell its mark stands.
 pub(crate) const CELL_MARK_DOWN: u32 = 5;
@@ -27,7 +28,7 @@ pub(crate) const CELL_MARK_DOWN: u32 = 5;
 /// How far below the middle of a cell or disc its weight stands, or the node that follows.
 pub(crate) const NOTE_DOWN: u32 = 6;
 
-/// How far below the middle of an edge the node that follows stands.
+/// How far below the place of an edge the node that follows stands.
 pub(crate) const EDGE_NOTE_DOWN: u32 = 14;
 
 /// The radius of the ground of words.
@@ -48,10 +49,16 @@ pub(crate) const PAIR_DOT_RADIUS: u32 = 5;
 /// The radius of the ring around a member of a set.
 pub(crate) const MEMBER_RADIUS: u32 = 16;
 
-/// The radius of the ring around a cell or disc at which a node follows.
+/// The radius of the ring around a disc at which a node follows.
 pub(crate) const CHILD_RADIUS: u32 = 21;
 
-/// The radius of the ring around the middle of an edge at which a node follows.
+/// The radius of the ring in a cell at which a node follows.
+pub(crate) const CELL_CHILD_RADIUS: u32 = 17;
+
+/// How far below the middle of a cell that of its ring is, so that the number stays clear.
+pub(crate) const CELL_CHILD_DOWN: u32 = 4;
+
+/// The radius of the ring around the place of an edge at which a node follows.
 pub(crate) const EDGE_CHILD_RADIUS: u32 = 26;
 
 /// How many lanes lines are drawn in.
@@ -72,6 +79,33 @@ pub(crate) const BADGE_RIGHT: u32 = 13;
 /// How far above a place such a ring is.
 pub(crate) const BADGE_UP: u32 = 13;
 
+/// How high a row of a table is.
+pub(crate) const ROW_HIGH: u32 = 28;
+
+/// Half of that.
+pub(crate) const HALF_ROW: u32 = 14;
+
+/// How far right of the left side of a table the numbers of its rows stand.
+pub(crate) const ROW_NUMBER: u32 = 20;
+
+/// How far right of the left side of a table the word for its last row stands.
+pub(crate) const ROW_WORD: u32 = 36;
+
+/// How far right of the left side of a table the marks of its rows are.
+pub(crate) const ROW_MARK: u32 = 52;
+
+/// How far right of the left side of a table the signs of its rows begin.
+pub(crate) const ROW_SIGNS: u32 = 76;
+
+/// The radius of the mark of a row.
+pub(crate) const ROW_RADIUS: u32 = 11;
+
+/// How far below the middle of a row the stroke of the first set is.
+pub(crate) const FIRST_DOWN: u32 = 8;
+
+/// How far below the middle of a row the stroke of the second set is.
+pub(crate) const SECOND_DOWN: u32 = 11;
+
 /// The most blank boards of a sheet.
 pub const MAX_BOARDS: u32 = 100;
 
@@ -86,6 +120,9 @@ pub(crate) const HEADING_LETTER: u32 = 10;
 
 /// How wide a letter of the legend is.
 pub(crate) const LEGEND_LETTER: u32 = 7;
+
+/// How wide a sign of a vector is.
+pub(crate) const SIGN_LETTER: u32 = 8;
 
 /// How far from the left side of its picture the cross of a fault begins.
 pub(crate) const CROSS_LEFT: u32 = 6;

@@ -1,14 +1,16 @@
 //! The size of pictures.
-ghost use Rattle.std.specs.Prelude.{◌≡◌, ◌≤◌, ◌<◌};
+ghost use Rattle.std.specs.Prelude.{◌≡◌, ◌≤◌, ◌<◌, length};
 ghost use Rattle.pg_draw.specs.Prelude.{IsBoard, MAX_POINTS, MAX_VERTICES, MAX_BRIDGE_ROWS, IsPlan};
-ghost use Rattle.pg_draw.specs.Prelude.{IsWithin};
+ghost use Rattle.pg_draw.specs.Prelude.{IsWithin, MAX_VECTORS};
 ghost use Rattle.pg_draw.specs.Pictures.{bridge_reach, chart_reach, circle_reach, far_corner};
-ghost use Rattle.pg_draw.specs.Pictures.{plan_reach, reach_of, row_reach, text_width, widest};
+ghost use Rattle.pg_draw.specs.Pictures.{plan_reach, reach_of, row_reach, table_reach};
+ghost use Rattle.pg_draw.specs.Shapes.{text_width, widest};
 
 use crate::measures::{
-    LEGEND_LETTER, MAX_BOARD_REACH, MAX_CORNER_REACH, MAX_COUNTED_LETTERS, MAX_LETTER_WIDTH,
-    MAX_TEXT_WIDTH,
+    MAX_BOARD_REACH, MAX_CORNER_REACH, MAX_COUNTED_LETTERS, MAX_LETTER_WIDTH, MAX_TEXT_WIDTH,
+    ROW_HIGH,
 };
+use crate::table::table_right;
 use pg_captions::Text;
 use pg_layout::Spot;
 use pg_picture::Place;
@@ -90,7 +92,20 @@ fn chart_reach(spots: &[Spot]) -> Place
     far
 }
 
-/// How far a board's cells, discs or vertices reach.
+/// How far the rows of a table reach.
+#[tactic(auto, unfolding(crate::specs::Pictures::table_reach))]
+fn table_reach(rows: &[Text], target: &str) -> Place
+    requires { length rows.now ≤ MAX_VECTORS }
+    ensures place { result ≡ table_reach rows.now target.now }
+    ensures near { IsWithin MAX_BOARD_REACH result }
+{
+    Place {
+        across: table_right(rows, target),
+        down: TOP + CELL + ROW_HIGH * rows.len() as u32,
+    }
+}
+
+/// How far a board's cells, discs, vertices or rows reach.
 fn reach_of(board: &Board) -> Place
     requires { IsBoard board.now }
     ensures place { result ≡ reach_of board.now }
@@ -114,6 +129,7 @@ fn reach_of(board: &Board) -> Place
             vertices: *vertices,
             bridge: *bridge,
         }),
+        Board::Table { rows, target } => table_reach(rows.as_slice(), target.as_str()),
     }
 }
 
@@ -140,14 +156,15 @@ pub(crate) fn text_width(letter: u32, words: &str) -> u32
     MARGIN + letter * words.len().min(MAX_COUNTED_LETTERS) as u32
 }
 
-/// How far the widest of these texts reaches.
-pub(crate) fn widest(texts: &[Text]) -> u32
-    ensures width { result ≡ widest texts.now }
+/// How far the widest of these texts reaches, whose letters are so wide.
+pub(crate) fn widest(letter: u32, texts: &[Text]) -> u32
+    requires { letter ≤ MAX_LETTER_WIDTH }
+    ensures width { result ≡ widest letter texts.now }
     ensures small { result < MAX_TEXT_WIDTH }
 {
     let mut width = 0;
     for text in texts {
-        width = width.max(text_width(LEGEND_LETTER, text.as_str()));
+        width = width.max(text_width(letter, text.as_str()));
     }
     width
 }

@@ -33,8 +33,8 @@ use Rattle.pg_captions.specs.declared.look.Legend.{Legend}
 use Rattle.pg_captions.specs.declared.look.Legend.TheVariants.{Absent, OfBody, Whole}
 use Rattle.pg_captions.specs.declared.look.Look.{Look}
 use Rattle.pg_scene.specs.declared.scene.Scene.{Scene}
-use Rattle.pg_drawing.proofs.Common.{Bytes, Cert, Game, LacksNode}
-use Rattle.pg_drawing.specs.Due.{DrawsNode, IsCertDue}
+use Rattle.pg_drawing.proofs.Common.{Bytes, Cert, Game}
+use Rattle.pg_drawing.specs.Due.{DrawsNode, IsCertDue, LacksNamed}
 use Rattle.pg_drawing.specs.Orders.{chosen, last_of, node_of}
 use Rattle.pg_drawing.specs.declared.name.NodeName.{NodeName}
 
@@ -246,27 +246,27 @@ module _ (look : Look) (g : Game) (c d : Cert) (same : short_cert c ≡ short_ce
   chosen_alike None =
       ap (node_of 0) (last_alike d.claims c.claims (sym (ap (λ (e : Cert). e.claims) same)))
 
-  drawn_alike : (claim node : ℕ) (fault : Option ℕ) (text : Bytes)
-      → DrawsNode look g d claim node fault text
-      → DrawsNode look g c claim node fault text
-  drawn_alike claim node fault text h =
+  drawn_alike : (name : NodeName) (fault : Option ℕ) (text : Bytes)
+      → DrawsNode look g d name fault text
+      → DrawsNode look g c name fault text
+  drawn_alike name fault text h =
       let was = h.shown in
-      let now = named_alike c d same claim node was.whole was.node was.named in
+      let now = named_alike c d same name.claim name.node was.whole was.node was.named in
       record {
         scene = h.scene;
         shown = record {
           whole = now.whole;
           node = now.node;
           named = now.named;
-          shown = scene_alike look g was.whole now.whole node was.node now.node fault h.scene
+          shown = scene_alike look g was.whole now.whole name.node was.node now.node fault h.scene
               (sym now.same_claim) (sym now.same_node) was.shown;
         };
         text_is = h.text_is;
       }
 
-  lacks_alike : (claim node : ℕ) → LacksNode d claim node → LacksNode c claim node
-  lacks_alike claim node h whole n named =
-      let there = named_alike d c (sym same) claim node whole n named in
+  lacks_alike : (name : NodeName) → LacksNamed d name → LacksNamed c name
+  lacks_alike name h whole n named =
+      let there = named_alike d c (sym same) name.claim name.node whole n named in
       h there.whole there.node there.named
 
   pub due_alike : (name : NodeName) (text : Bytes) (status : ℕ)
@@ -274,17 +274,16 @@ module _ (look : Look) (g : Game) (c d : Cert) (same : short_cert c ≡ short_ce
       → IsCertDue look g c name text status
   due_alike name text status (inl (valid, inl (drawn, is))) = inl (
     valid_alike g c d same valid,
-    inl (drawn_alike name.claim name.node None text drawn, is),
+    inl (drawn_alike name None text drawn, is),
   )
   due_alike name text status (inl (valid, inr (lacks, says))) = inl (
     valid_alike g c d same valid,
-    inr (lacks_alike name.claim name.node lacks, says),
+    inr (lacks_alike name lacks, says),
   )
   due_alike name text status (inr h) = inr (record {
-    claim = h.claim;
-    node = h.node;
+    name = h.name;
     why = h.why;
-    first = fault_alike g c d same h.claim h.node h.why h.first;
-    drawn = drawn_alike h.claim h.node (Some h.why) text h.drawn;
+    first = fault_alike g c d same h.name.claim h.name.node h.why h.first;
+    drawn = drawn_alike h.name (Some h.why) text h.drawn;
     status_is = h.status_is;
   })

@@ -3,13 +3,16 @@ use Rattle.std.proofs.Common.{◌≡◌, true, Option, Some, None, Result, Ok, E
 use Rattle.std.proofs.Common.{subst, inl, inr, string_bytes, true≢false}
 use Rattle.pg_drawing.proofs.Common.{Bytes, Cert, DONE, Evidence, Game, Halt, Holding}
 use Rattle.pg_drawing.proofs.Common.{MakesStanding, OpensEvidence, OpensSpanCert, Refused, SpanCert}
-use Rattle.pg_drawing.proofs.Common.{SpanGame, Stopped, entry, evidence_held, span_entry}
+use Rattle.pg_drawing.proofs.Common.{OpensCertificate, SpanGame, Stopped, VecGame, entry}
+use Rattle.pg_drawing.proofs.Common.{evidence_held, span_entry, vector_entry}
 use Rattle.pg_captions.specs.declared.look.Look.{Look}
-use Rattle.pg_drawing.specs.Boards.{begins_otherwise, board_entry, connectivity_pair, plain_or}
-use Rattle.pg_drawing.specs.Boards.{positional_pair, with_certificate}
-use Rattle.pg_drawing.specs.Boards.BoardEntry.{Positional, Connectivity}
-use Rattle.pg_drawing.specs.Due.{DrawsGame, DrawsSpanGame, Finds, IsCertDue, IsDueOfBoth}
-use Rattle.pg_drawing.specs.Due.{IsDueOfGame, IsEvidenceDue, IsFormDue, IsFound, IsSpanCertDue}
+use Rattle.pg_drawing.specs.Boards.{any_entry, begins_otherwise, plain_or, read_into}
+use Rattle.pg_drawing.specs.Boards.{with_certificate}
+use Rattle.pg_drawing.specs.Boards.AnyEntry.{Positional, Connectivity, Vectors}
+use Rattle.pg_drawing.specs.Boards.PairEntry.{ConnectivityPair, PositionalPair, VectorsPair}
+use Rattle.pg_drawing.specs.Due.{DrawsGame, DrawsSpanGame, DrawsVectorGame, Finds, IsCertDue}
+use Rattle.pg_drawing.specs.Due.{IsDueOfBoth, IsDueOfGame, IsEvidenceDue, IsFormDue, IsFound}
+use Rattle.pg_drawing.specs.Due.{IsSpanCertDue, IsVectorCertDue}
 use Rattle.pg_drawing.specs.Incoming.{OpensAlike}
 use Rattle.pg_drawing.specs.Orders.{chosen, chosen_claim}
 use Rattle.pg_drawing.specs.declared.board.Board.{Board}
@@ -24,17 +27,25 @@ module _ (look : Look) (b : Board) (text : Bytes) where
   pub positional_drawn : (g : Game)
       → b ≡ boards.Positional g
       → DrawsGame look g text
-      → IsDueOfGame look (Ok (board_entry b)) text DONE
+      → IsDueOfGame look (Ok (any_entry b)) text DONE
   positional_drawn g is draws =
-      subst (λ (b : Board). IsDueOfGame look (Ok (board_entry b)) text DONE) (sym is)
+      subst (λ (b : Board). IsDueOfGame look (Ok (any_entry b)) text DONE) (sym is)
       (g, refl, draws, refl)
 
   pub connectivity_drawn : (g : SpanGame)
       → b ≡ boards.Connectivity g
       → DrawsSpanGame look g text
-      → IsDueOfGame look (Ok (board_entry b)) text DONE
+      → IsDueOfGame look (Ok (any_entry b)) text DONE
   connectivity_drawn g is draws =
-      subst (λ (b : Board). IsDueOfGame look (Ok (board_entry b)) text DONE) (sym is)
+      subst (λ (b : Board). IsDueOfGame look (Ok (any_entry b)) text DONE) (sym is)
+      (g, refl, draws, refl)
+
+  pub vectors_drawn : (g : VecGame)
+      → b ≡ boards.Vectors g
+      → DrawsVectorGame look g text
+      → IsDueOfGame look (Ok (any_entry b)) text DONE
+  vectors_drawn g is draws =
+      subst (λ (b : Board). IsDueOfGame look (Ok (any_entry b)) text DONE) (sym is)
       (g, refl, draws, refl)
 
 -- ---- a certificate that was read
@@ -81,13 +92,13 @@ module _ (look : Look) (certificate : Bytes) (name : Option NodeName) where
       (string_bytes told.words) told.status due) in
       subst
       (λ (r : Result Cert Halt). IsDueOfBoth look name
-      (positional_pair (entry g) (plain_or r (evidence_held (held certificate))))
+      (read_into (PositionalPair (entry g)) (plain_or r (evidence_held (held certificate))))
       (string_bytes told.words) told.status) (sym opens.held)
       (g, refl, inl (record { cert = opens.whole; stands = refl; due = whole }))
 
   form_due : (g : Game) (read : Result Evidence Halt) (r : Result Telling Halt)
       → IsFound (IsFormDue look g name read) r
-      → IsFound (IsDueOfBoth look name (positional_pair (entry g) read)) r
+      → IsFound (IsDueOfBoth look name (read_into (PositionalPair (entry g)) read)) r
   form_due g (Err halt) r due = due
   form_due g (Ok e) (Ok told) due = (g, refl, due)
   form_due g (Ok e) (Err (Refused refusal)) due = (g, refl, due)
@@ -107,7 +118,7 @@ module _ (look : Look) (certificate : Bytes) (name : Option NodeName) where
   other_drawn (Some held) g (Refused refusal) opens is r due =
       let either = evidence_held (held certificate) in
       subst (λ (read : Result Cert Halt). IsFound (IsDueOfBoth look name
-      (positional_pair (entry g) (plain_or read either))) r) (sym opens)
+      (read_into (PositionalPair (entry g)) (plain_or read either))) r) (sym opens)
       (rw is (form_due g either r due))
   other_drawn (Some held) g (Stopped stop) opens is r due = absurd (true≢false (sym is))
 
@@ -119,5 +130,18 @@ module _ (look : Look) (certificate : Bytes) (name : Option NodeName) where
       (with_certificate (Ok (Connectivity (span_entry g))) (held certificate))) (Ok told)
   claim_drawn None g c told opens due = tt
   claim_drawn (Some held) g c told opens due = subst
-      (λ (r : Result SpanCert Halt). IsDueOfBoth look name (connectivity_pair (span_entry g) r)
+      (λ (r : Result SpanCert Halt). IsDueOfBoth look name
+      (read_into (ConnectivityPair (span_entry g)) r)
+      (string_bytes told.words) told.status) (sym opens) (g, refl, due)
+
+  pub vector_drawn : (h : Option Holding) (g : VecGame) (c : Cert) (told : Telling)
+      → OpensCertificate h certificate (Ok c)
+      → IsVectorCertDue look g c (chosen c name) (string_bytes told.words) told.status
+      → Finds h
+      (λ held. IsDueOfBoth look name
+      (with_certificate (Ok (Vectors (vector_entry g))) (held certificate))) (Ok told)
+  vector_drawn None g c told opens due = tt
+  vector_drawn (Some held) g c told opens due = subst
+      (λ (r : Result Cert Halt). IsDueOfBoth look name
+      (read_into (VectorsPair (vector_entry g)) r)
       (string_bytes told.words) told.status) (sym opens) (g, refl, due)

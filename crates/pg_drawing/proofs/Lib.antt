@@ -2,6 +2,7 @@ mod Common
 pub mod Openings
 pub mod Coming
 pub mod Alike
+pub mod Nodes
 pub mod Causes
 pub mod Found
 pub mod Endings

@@ -8,10 +8,13 @@ pub use Rattle.pg_evidence.specs.Standing.{IsTraced, MakesStanding, RejectsImage
 pub use Rattle.pg_evidence.specs.declared.evidence.Evidence.{Evidence}
 pub use Rattle.pg_evidence.specs.declared.standing.Standing.{Standing}
 pub use Rattle.pg_families.specs.Connectivity.{OpensSpanCert, span_cert_held, span_held}
-pub use Rattle.pg_family_files.specs.Views.{span_entry}
+pub use Rattle.pg_families.specs.Vectors.{vectors_held}
+pub use Rattle.pg_family_files.specs.Views.{span_entry, vector_entry}
 pub use Rattle.pg_files.specs.Views.{entry, number_of}
 pub use Rattle.pg_files.specs.declared.fault.Fault.TheVariants.{Header, Size}
 pub use Rattle.pg_game.specs.declared.game.Game.{Game}
+pub use Rattle.pg_gf2.specs.Check.{IsFirstVecFault, IsVecValid}
+pub use Rattle.pg_gf2.specs.declared.game.VecGame.{VecGame}
 pub use Rattle.pg_io.specs.Console.{ConsoleTold, Grows}
 pub use Rattle.pg_io.specs.Files.{Bytes, Holding, IsAbsent, ReadsOnly}
 pub use Rattle.pg_io.specs.declared.stop.Stop.TheVariants.{Memory, Read, Write}
@@ -31,7 +34,7 @@ pub use Rattle.pg_span.specs.declared.game.SpanGame.{SpanGame}
 pub use Rattle.pg_talk.specs.Halts.{HaltCauses, HasCause, IsGameHalt, IsReadHalt, stop_status}
 pub use Rattle.pg_talk.specs.Opening.{IsSaidBy, game_held}
 pub use Rattle.pg_talk.specs.Reading.{IsLackingOne, IsLackingTwo, IsReadAs, Opens}
-pub use Rattle.pg_talk.specs.Reading.{certificate_held, game_fault, held_as}
+pub use Rattle.pg_talk.specs.Reading.{OpensCertificate, certificate_held, game_fault, held_as}
 pub use Rattle.pg_talk.specs.declared.halt.Halt.{Halt}
 pub use Rattle.pg_talk.specs.declared.halt.Halt.TheVariants.{Refused, Stopped}
 pub use Rattle.pg_text.specs.declared.error.FileError.{FileError}

@@ -8,7 +8,7 @@ use Rattle.pg_drawing.specs.Prelude.{Halt, Refused}
 use Rattle.pg_io.specs.Causes.{Rose}
 use Rattle.pg_io.specs.declared.entry.Entry.TheVariants.{Said}
 use Rattle.pg_captions.specs.declared.look.Look.{Look}
-use Rattle.pg_drawing.specs.Boards.{board_held, both_held}
+use Rattle.pg_drawing.specs.Boards.{any_held, both_held}
 use Rattle.pg_drawing.specs.Due.{IsDue}
 use Rattle.pg_drawing.specs.Orders.{Order}
 use Rattle.pg_drawing.specs.Orders.Order.{OfGame, OfNode}
@@ -51,7 +51,7 @@ Ran look order told before after status = IfSome told
 -- it is told that a name that is wanted isn't held
 abbrev pub IsLacking : Option Holding → Option Order → Type 0
 IsLacking told None = ⊥
-IsLacking told (Some (OfGame game)) = IsLackingOne board_held told game
+IsLacking told (Some (OfGame game)) = IsLackingOne any_held told game
 IsLacking told (Some (OfNode game certificate name)) = IsLackingTwo both_held told game certificate
 
 -- ---- what the code finds

@@ -2,9 +2,9 @@
 ghost use Rattle.std.specs.Prelude.{◌≡◌, IfNone, IfOk, IfSome, None, slice_get, string_bytes};
 ghost use Rattle.pg_family_files.specs.SpanCertPrint.{IsWithinRanges};
 ghost use Rattle.pg_span.specs.Valid.{IsFirstFlaw};
-ghost use Rattle.pg_drawing.specs.Due.{DrawsSpanClaim, DrawsSpanGame, IsFlawDue, IsSpanCertDue};
-ghost use Rattle.pg_drawing.specs.Due.{IsSpanNodeDue};
-ghost use Rattle.pg_drawing.specs.Orders.{chosen_claim};
+ghost use Rattle.pg_drawing.specs.Due.{DrawsSpanGame, DrawsSpanNode, IsFaultDue, IsFirstSpanNode};
+ghost use Rattle.pg_drawing.specs.Due.{IsNodeDue, IsSpanCertDue, LacksSpanNode};
+ghost use Rattle.pg_drawing.specs.Orders.{chosen_claim, node_of};
 
 use crate::name::{NodeName, chosen_claim};
 use crate::picturing::{Telling, no_node, text_of};
@@ -35,7 +35,8 @@ fn claim_text(
     fault: Option<u8>,
 ) -> Result<Option<String>, Memory>
     ensures drawn { IfOk result (λ found. IfSome found
-        (λ text. DrawsSpanClaim look game.now cert.now claim fault (string_bytes text))) }
+        (λ text. DrawsSpanNode look game.now cert.now (node_of claim 0) fault
+        (string_bytes text))) }
     ensures none { IfOk result (λ found. IfNone found (slice_get cert.now.claims claim ≡ None)) }
 {
     span_scenes_can_be_laid_out();
@@ -56,7 +57,8 @@ fn flawed(
 ) -> Result<Telling, Memory>
     requires { IsFirstFlaw game.now cert.now claim why }
     ensures { IfOk result
-        (λ told. IsFlawDue look game.now cert.now (string_bytes told.words) told.status) }
+        (λ told. IsFaultDue (DrawsSpanNode look game.now cert.now)
+        (IsFirstSpanNode game.now cert.now) (string_bytes told.words) told.status) }
 {
     let Some(words) = claim_text(alloc, look, game, cert, claim, Some(why.number()))? else {
         unreachable!();
@@ -77,8 +79,8 @@ fn sound_claim(
     name: NodeName,
 ) -> Result<Telling, Memory>
     ensures { IfOk result
-        (λ told. IsSpanNodeDue look game.now cert.now name (string_bytes told.words)
-        told.status) }
+        (λ told. IsNodeDue (DrawsSpanNode look game.now cert.now) (LacksSpanNode cert.now) name
+        (string_bytes told.words) told.status) }
 {
     if name.node != 0 {
         return no_node(alloc);

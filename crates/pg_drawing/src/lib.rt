@@ -10,6 +10,7 @@ mod picturing;
 mod running;
 mod standing;
 mod telling;
+mod vectors;
 
 pub use board::Board;
 pub use name::{DOT, NodeName};

@@ -1,16 +1,17 @@
-//! Reading games of the families that are drawn, and certificates.
+//! Reading games of all kinds, and certificates.
 ghost use Rattle.std.specs.Prelude.{◌≡◌, Some, IfErr, IfOk};
 ghost use Rattle.pg_drawing.specs.Prelude.{IsAbsent, IsWithinLimits, ReadsOnly, HaltCauses};
-ghost use Rattle.pg_drawing.specs.Prelude.{IsGameHalt, IsReadHalt, Opens, span_held};
+ghost use Rattle.pg_drawing.specs.Prelude.{IsGameHalt, IsReadHalt, Opens, vectors_held};
 ghost use Rattle.pg_drawing.specs.Incoming.{OpensAlike};
-ghost use Rattle.pg_drawing.specs.Boards.{IsBoardRead, as_connectivity, board_entry, board_held};
-ghost use Rattle.pg_drawing.specs.Boards.{begins_otherwise, is_other_kind};
+ghost use Rattle.pg_drawing.specs.Boards.{IsBoardRead, any_entry, any_held, begins_otherwise};
+ghost use Rattle.pg_drawing.specs.Boards.{family_held, is_other_kind, read_into};
+ghost use Rattle.pg_drawing.specs.Boards.AnyEntry.{Vectors};
 
 use crate::board::Board;
 use crate::incoming::Incoming;
 use pg_cert::Cert;
 use pg_cert_files::{CertFault, Fault as FormFault, MAX_CERT_BYTES};
-use pg_family_files::read_span;
+use pg_family_files::{read_span, read_vectors};
 use pg_files::{Fault, MAX_GAME_BYTES, read_game};
 use pg_io::{Files, Stop, pour, read_whole};
 use pg_messages::Refusal;
@@ -18,34 +19,34 @@ use pg_talk::Halt;
 use pg_text::{FileError, Numbered};
 use std::alloc::Global;
 
-/// Whether the fault is that the file doesn't begin as one of games on lines and switching games.
+/// Whether the fault is that the file doesn't begin as one of the kind that was tried.
 fn is_other_kind(number: u8) -> bool
     ensures { result ≡ is_other_kind number }
 {
     number == Fault::Header.number()
 }
 
-/// The connectivity game that the text says.
-fn read_connectivity(alloc: Global, text: &[u8]) -> Result<Board, FileError>
-    ensures { IsBoardRead result (as_connectivity (span_held (Some text.now))) }
+/// The game on vectors that the text says.
+fn read_vector_board(alloc: Global, text: &[u8]) -> Result<Board, FileError>
+    ensures { IsBoardRead result (read_into Vectors (vectors_held (Some text.now))) }
 {
-    match read_span(alloc, text) {
-        Ok(game) => Ok(Board::Connectivity(game)),
+    match read_vectors(alloc, text) {
+        Ok(game) => Ok(Board::Vectors(game)),
         Err(FileError::Bad { number, line }) => Err(FileError::Bad { number, line }),
         Err(FileError::Memory) => Err(FileError::Memory),
     }
 }
 
-/// The game that the text says. It is read as a connectivity game where it doesn't begin as one of
-/// the others.
-fn read_board(alloc: Global, text: &[u8]) -> Result<Board, FileError>
-    ensures { IsBoardRead result (board_held (Some text.now)) }
+/// The connectivity game that the text says, or the game on vectors if it doesn't begin as one of
+/// the former.
+fn read_family_board(alloc: Global, text: &[u8]) -> Result<Board, FileError>
+    ensures { IsBoardRead result (family_held (Some text.now)) }
 {
-    match read_game(alloc, text) {
-        Ok(game) => Ok(Board::Positional(game)),
+    match read_span(alloc, text) {
+        Ok(game) => Ok(Board::Connectivity(game)),
         Err(FileError::Bad { number, line }) => {
             if is_other_kind(number) {
-                return read_connectivity(alloc, text);
+                return read_vector_board(alloc, text);
             }
             Err(FileError::Bad { number, line })
         }
@@ -53,9 +54,26 @@ fn read_board(alloc: Global, text: &[u8]) -> Result<Board, FileError>
     }
 }
 
-/// The game under this name.
+/// The game that the text says. It is read as one of another kind if it doesn't begin as a game on
+/// lines or a switching game.
+fn read_board(alloc: Global, text: &[u8]) -> Result<Board, FileError>
+    ensures { IsBoardRead result (any_held (Some text.now)) }
+{
+    match read_game(alloc, text) {
+        Ok(game) => Ok(Board::Positional(game)),
+        Err(FileError::Bad { number, line }) => {
+            if is_other_kind(number) {
+                return read_family_board(alloc, text);
+            }
+            Err(FileError::Bad { number, line })
+        }
+        Err(FileError::Memory) => Err(FileError::Memory),
+    }
+}
+
+/// Returns the game of the file under this name, of whatever kind it is.
 pub fn open_board<F: Files>(alloc: Global, files: &mut F, name: &str) -> Result<Board, Halt>
-    ensures opened { Opens board_entry board_held (F.told files.old).held name.now result }
+    ensures opened { Opens any_entry any_held (F.told files.old).held name.now result }
     ensures halts { IfErr result IsGameHalt }
     ensures causes { HaltCauses (IsAbsent (F.told files.old).held name.now)
         (F.told files.old).faults (F.told files.new).faults result }

@@ -1,9 +1,9 @@
 //! Pictures of games and of nodes, with what else there may be to say of a certificate.
 ghost use Rattle.std.specs.Prelude.{◌≡◌, IfNone, IfOk, IfSome, string_bytes};
-ghost use Rattle.pg_drawing.specs.Prelude.{IsWithinLimits, IsFirstFault, LacksNode};
+ghost use Rattle.pg_drawing.specs.Prelude.{IsWithinLimits, IsFirstFault};
 ghost use Rattle.pg_scene.specs.Limits.{IsScene};
-ghost use Rattle.pg_drawing.specs.Due.{DrawsGame, DrawsNode, IsCertDue, IsFaultDue, IsNodeDue};
-ghost use Rattle.pg_drawing.specs.Due.{SaysNoNode, scene_text};
+ghost use Rattle.pg_drawing.specs.Due.{DrawsGame, DrawsNode, IsCertDue, IsFaultDue, IsFirstNamed};
+ghost use Rattle.pg_drawing.specs.Due.{IsNodeDue, LacksNamed, SaysNoNode, scene_text};
 ghost use Rattle.pg_drawing.specs.Orders.{chosen};
 
 use crate::name::{NodeName, chosen};
@@ -68,9 +68,8 @@ fn node_text(
     fault: Option<u8>,
 ) -> Result<Option<String>, Memory>
     ensures drawn { IfOk result (λ found. IfSome found
-        (λ text. DrawsNode look game.now cert.now name.claim name.node fault
-        (string_bytes text))) }
-    ensures none { IfOk result (λ found. IfNone found (LacksNode cert.now name.claim name.node)) }
+        (λ text. DrawsNode look game.now cert.now name fault (string_bytes text))) }
+    ensures none { IfOk result (λ found. IfNone found (LacksNamed cert.now name)) }
 {
     scenes_can_be_laid_out();
     match scene_of_node(alloc, game, cert, name.claim, name.node, fault, look)? {
@@ -90,7 +89,8 @@ fn faulty(
 ) -> Result<Telling, Memory>
     requires { IsFirstFault game.now cert.now name.claim name.node why }
     ensures { IfOk result
-        (λ told. IsFaultDue look game.now cert.now (string_bytes told.words) told.status) }
+        (λ told. IsFaultDue (DrawsNode look game.now cert.now) (IsFirstNamed game.now cert.now)
+        (string_bytes told.words) told.status) }
 {
     let Some(words) = node_text(alloc, look, game, cert, name, Some(why))? else {
         unreachable!();
@@ -110,7 +110,8 @@ fn sound(
     name: NodeName,
 ) -> Result<Telling, Memory>
     ensures { IfOk result
-        (λ told. IsNodeDue look game.now cert.now name (string_bytes told.words) told.status) }
+        (λ told. IsNodeDue (DrawsNode look game.now cert.now) (LacksNamed cert.now) name
+        (string_bytes told.words) told.status) }
 {
     match node_text(alloc, look, game, cert, name, None)? {
         Some(words) => Ok(Telling {

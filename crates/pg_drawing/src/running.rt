@@ -21,13 +21,12 @@ pub fn end_with<C: Console>(console: &mut C, text: &str, status: u8) -> u8
     }
 }
 
-/// Says the picture that the words ask for, and gives the status. `GAME` is the file of a game on
-/// lines, of a switching game or of a connectivity game, of which the board is drawn;
-/// `GAME CERTIFICATE` draws the root of the certificate's first claim, `GAME CERTIFICATE K` node K
-/// of that claim, and `GAME CERTIFICATE C.K` node K of claim C, all counted from 0. A claim of a
-/// connectivity game has one node, number 0. The certificate is checked first: where it isn't valid
-/// its first faulty node is drawn, with the fault. `look` says whether the picture has numbers,
-/// lines and a legend, and at what width it is shown.
+/// Says the picture that the words ask for, and gives the status. `GAME` is the file of a game of
+/// any kind, which is drawn; `GAME CERTIFICATE` draws the root of the certificate's first claim,
+/// `GAME CERTIFICATE K` node K of that claim, and `GAME CERTIFICATE C.K` node K of claim C, all
+/// counted from 0. A claim of a connectivity game has one node, number 0. The certificate is
+/// checked first: where it isn't valid its first faulty node is drawn, with the fault. `look` says
+/// whether the picture has numbers, lines and a legend, and at what width it is shown.
 ///
 /// - 0: the picture is said: of a game, or of a node of a valid certificate.
 /// - 2: the words have no meaning, or the certificate is valid and has no such node.

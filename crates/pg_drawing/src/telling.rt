@@ -1,10 +1,10 @@
 //! What there is to say to what the words ask for.
-ghost use Rattle.std.specs.Prelude.{◌≡◌, Some, Ok, IfErr, IfOk, map, string_bytes};
+ghost use Rattle.std.specs.Prelude.{◌≡◌, [], ◌∷◌, Some, Ok, IfErr, IfOk, map, string_bytes};
 ghost use Rattle.pg_drawing.specs.Prelude.{IsAbsent, ReadsOnly, entry, span_entry, HaltCauses};
 ghost use Rattle.pg_drawing.specs.Prelude.{IsGameHalt, IsReadHalt, IsLackingOne, IsLackingTwo};
-ghost use Rattle.pg_drawing.specs.Prelude.{DONE, evidence_held};
-ghost use Rattle.pg_drawing.specs.Boards.{board_entry, board_held, both_held, with_certificate};
-ghost use Rattle.pg_drawing.specs.Boards.BoardEntry.{Positional, Connectivity};
+ghost use Rattle.pg_drawing.specs.Prelude.{DONE, evidence_held, vector_entry};
+ghost use Rattle.pg_drawing.specs.Boards.{any_entry, any_held, both_held, with_certificate};
+ghost use Rattle.pg_drawing.specs.Boards.AnyEntry.{Positional, Connectivity, Vectors};
 ghost use Rattle.pg_drawing.specs.Due.{Finds, IsDue, IsDueOfBoth, IsDueOfGame, IsFormDue};
 ghost use Rattle.pg_drawing.specs.Orders.{order_of};
 ghost use Rattle.pg_drawing.specs.Runs.{Gives, IsCertEnd, IsLacking};
@@ -15,11 +15,13 @@ use crate::name::{NodeName, node_named};
 use crate::opening::{begins_otherwise, open_board, open_certificate};
 use crate::picturing::{Telling, game_text, tell_certificate};
 use crate::standing::tell_evidence;
+use crate::vectors::{tell_vector_certificate, vector_game_text};
 use pg_base::Memory;
 use pg_captions::Look;
 use pg_evidence::open_evidence;
 use pg_families::open_span_cert;
 use pg_game::Game;
+use pg_gf2::VecGame;
 use pg_io::Files;
 use pg_messages::{DONE, Refusal};
 use pg_span::SpanGame;
@@ -29,11 +31,12 @@ use std::alloc::Global;
 /// The text of the picture of a game.
 fn board_text(alloc: Global, look: Look, board: &Board) -> Result<String, Memory>
     ensures { IfOk result
-        (λ text. IsDueOfGame look (Ok (board_entry board.now)) (string_bytes text) DONE) }
+        (λ text. IsDueOfGame look (Ok (any_entry board.now)) (string_bytes text) DONE) }
 {
     match board {
         Board::Positional(game) => game_text(alloc, look, game),
         Board::Connectivity(game) => span_game_text(alloc, look, game),
+        Board::Vectors(game) => vector_game_text(alloc, look, game),
     }
 }
 
@@ -45,10 +48,10 @@ fn tell_game<F: Files>(
     game: &str,
 ) -> Result<Telling, Halt>
     ensures found { Finds (F.told files.old).held
-        (λ held. IsDueOfGame look (board_held (held game.now))) result }
+        (λ held. IsDueOfGame look (any_held (held game.now))) result }
     ensures done { IfOk result (λ told. told.status ≡ DONE) }
     ensures halts { IfErr result IsGameHalt }
-    ensures causes { HaltCauses (IsLackingOne board_held (F.told files.old).held game.now)
+    ensures causes { HaltCauses (IsLackingOne any_held (F.told files.old).held game.now)
         (F.told files.old).faults (F.told files.new).faults result }
     ensures kept { ReadsOnly (F.told files.old) (F.told files.new) }
 {
@@ -134,6 +137,28 @@ fn tell_claim_of<F: Files>(
     Ok(tell_span_certificate(alloc, look, game, &cert, name)?)
 }
 
+/// Returns the picture of a node of the certificate under a name for a game on vectors.
+fn tell_vector_node_of<F: Files>(
+    alloc: Global,
+    look: Look,
+    files: &mut F,
+    game: &VecGame,
+    certificate: &str,
+    name: Option<NodeName>,
+) -> Result<Telling, Halt>
+    ensures found { Finds (F.told files.old).held
+        (λ held. IsDueOfBoth look name
+        (with_certificate (Ok (Vectors (vector_entry game.now))) (held certificate.now))) result }
+    ensures done { IfOk result (λ told. IsCertEnd told.status) }
+    ensures halts { IfErr result IsReadHalt }
+    ensures causes { HaltCauses (IsAbsent (F.told files.old).held certificate.now)
+        (F.told files.old).faults (F.told files.new).faults result }
+    ensures kept { ReadsOnly (F.told files.old) (F.told files.new) }
+{
+    let cert = pg_talk::open_certificate(alloc, files, certificate)?;
+    Ok(tell_vector_certificate(alloc, look, game, &cert, name)?)
+}
+
 /// The picture of a node of the certificate under a name for this game. The certificate is read as
 /// one of the game's family.
 fn tell_node_on<F: Files>(
@@ -146,7 +171,7 @@ fn tell_node_on<F: Files>(
 ) -> Result<Telling, Halt>
     ensures found { Finds (F.told files.old).held
         (λ held. IsDueOfBoth look name
-        (with_certificate (Ok (board_entry board.now)) (held certificate.now))) result }
+        (with_certificate (Ok (any_entry board.now)) (held certificate.now))) result }
     ensures done { IfOk result (λ told. IsCertEnd told.status) }
     ensures halts { IfErr result IsReadHalt }
     ensures causes { HaltCauses (IsAbsent (F.told files.old).held certificate.now)
@@ -156,6 +181,7 @@ fn tell_node_on<F: Files>(
     match board {
         Board::Positional(game) => tell_node_of(alloc, look, files, game, certificate, name),
         Board::Connectivity(game) => tell_claim_of(alloc, look, files, game, certificate, name),
+        Board::Vectors(game) => tell_vector_node_of(alloc, look, files, game, certificate, name),
     }
 }
 
@@ -181,6 +207,29 @@ fn tell_node<F: Files>(
 {
     let board = open_board(alloc, files, game)?;
     tell_node_on(alloc, look, files, &board, certificate, name)
+}
+
+/// Returns what there is to say of the node that a word names.
+fn tell_named<F: Files>(
+    alloc: Global,
+    look: Look,
+    files: &mut F,
+    game: &str,
+    certificate: &str,
+    word: &[u8],
+) -> Result<Telling, Halt>
+    ensures found { Finds (F.told files.old).held
+        (IsDue look (order_of (game.now ∷ certificate.now ∷ word.now ∷ []))) result }
+    ensures gives { Gives (order_of (game.now ∷ certificate.now ∷ word.now ∷ [])) result }
+    ensures causes { HaltCauses (IsLacking (F.told files.old).held
+        (order_of (game.now ∷ certificate.now ∷ word.now ∷ [])))
+        (F.told files.old).faults (F.told files.new).faults result }
+    ensures kept { ReadsOnly (F.told files.old) (F.told files.new) }
+{
+    match node_named(word) {
+        Some(name) => tell_node(alloc, look, files, game, certificate, Some(name)),
+        None => Err(Halt::Refused(Refusal::NoMeaning)),
+    }
 }
 
 /// What there is to say to what the words ask for.
@@ -210,19 +259,16 @@ pub(crate) fn tell<F: Files>(
                 None,
             )
         }
-        [game, certificate, word] => match node_named(word.as_bytes()) {
-            Some(name) => {
-                tell_node(
-                    alloc,
-                    look,
-                    files,
-                    game.as_str(),
-                    certificate.as_str(),
-                    Some(name),
-                )
-            }
-            None => Err(Halt::Refused(Refusal::NoMeaning)),
-        },
+        [game, certificate, word] => {
+            tell_named(
+                alloc,
+                look,
+                files,
+                game.as_str(),
+                certificate.as_str(),
+                word.as_bytes(),
+            )
+        }
         _ => Err(Halt::Refused(Refusal::NoMeaning)),
     }
 }

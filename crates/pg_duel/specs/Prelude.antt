@@ -10,6 +10,8 @@ pub use Rattle.pg_base.specs.declared.side.Side.TheVariants.{X, Y}
 pub use Rattle.pg_cert.specs.Valid.{IsValid}
 pub use Rattle.pg_cert.specs.declared.cert.Cert.{Cert}
 pub use Rattle.pg_cert.specs.declared.cert.Claim.{Claim}
+pub use Rattle.pg_characters.specs.Names.{point_name}
+pub use Rattle.pg_characters.specs.declared.shown.Look.{Look}
 pub use Rattle.pg_evidence.specs.Evidence.{IsWithinItsLimits, evidence_held}
 pub use Rattle.pg_evidence.specs.Standing.{RejectsEvidence, StandsFor}
 pub use Rattle.pg_evidence.specs.declared.evidence.Evidence.{Evidence}
@@ -48,11 +50,9 @@ pub use Rattle.pg_playing.specs.declared.note.Note.{Note}
 pub use Rattle.pg_record.specs.declared.event.Event.{Event}
 pub use Rattle.pg_sessions.specs.Course.{Course}
 pub use Rattle.pg_sessions.specs.SessionLog.{reason_of}
-pub use Rattle.pg_table.specs.Names.{point_name}
 pub use Rattle.pg_table.specs.Reply.{read_reply}
 pub use Rattle.pg_table.specs.Words.{turn_text}
 pub use Rattle.pg_table.specs.declared.reply.Reply.{Reply}
-pub use Rattle.pg_table.specs.declared.shown.Look.{Look}
 pub use Rattle.pg_talk.specs.Done.{Does, Done, End, Finished, Follows as FollowsOn}
 pub use Rattle.pg_talk.specs.Done.{Starved, stop_end}
 pub use Rattle.pg_talk.specs.Halts.{BothCauses, HaltCauses, IsReadHalt}

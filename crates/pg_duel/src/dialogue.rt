@@ -9,6 +9,7 @@ ghost use Rattle.pg_table.specs.declared.reply.Reply.TheVariants as replies;
 ghost use Rattle.pg_playing.specs.declared.note.Note.TheVariants as notes;
 
 use crate::words::{reply_text, seat_screen};
+use pg_characters::Look;
 use pg_check::Checked;
 use pg_game::Game;
 use pg_io::{Console, Heard, Stop};
@@ -16,7 +17,7 @@ use pg_messages::ReplyFault;
 use pg_opponent::Seat;
 use pg_player::OpenFault;
 use pg_playing::{MAX_HEARD, Note, Turn, note_of_lines, reason_of};
-use pg_table::{Look, Reply, read_reply};
+use pg_table::{Reply, read_reply};
 use pg_talk::{MAX_REPLY, say_text, trimmed};
 use std::alloc::Global;
 

@@ -12,6 +12,7 @@ ghost use Rattle.pg_playing.specs.Playing.{GivesTable};
 use crate::claims::side_by;
 use crate::dialogue::play_to_the_end;
 use pg_base::Side;
+use pg_characters::Look;
 use pg_check::{CheckFault, Checked};
 use pg_evidence::{Evidence, check_standing, open_evidence, standing_of};
 use pg_game::Game;
@@ -20,7 +21,6 @@ use pg_messages::Refusal;
 use pg_opponent::Seat;
 use pg_player::OpenFault;
 use pg_playing::{store, turned_to};
-use pg_table::Look;
 use pg_talk::{Halt, open_game};
 use std::alloc::Global;
 

@@ -6,11 +6,12 @@ ghost use Rattle.pg_duel.specs.Words.{last_of, move_text, own_text, promise_text
 ghost use Rattle.pg_duel.specs.Words.{reply_text, rule_text, seat_text, taken_text};
 
 use pg_base::{Goal, Memory, Score, Side};
+use pg_characters::{Look, put_name};
 use pg_game::{Game, Position};
 use pg_opponent::{OwnPoint, Seat};
 use pg_player::Rule;
 use pg_playing::{Note, put_note, shown_of, shown_text};
-use pg_table::{Look, put_name, put_turn};
+use pg_table::put_turn;
 use std::alloc::{AllocError, Global};
 
 /// What the words before the program's moves mean.

@@ -1,9 +1,8 @@
 //! Books of games on vectors.
-ghost use Rattle.std.specs.Prelude.{◌≡◌, ◌<◌, ◌≤◌, ◌+◌, ◌%◌, ◌++◌, ◌∷◌, [], IfOk, OnOk, length};
+ghost use Rattle.std.specs.Prelude.{◌≡◌, ◌<◌, ◌≤◌, ◌++◌, IfOk, OnOk, length};
 ghost use Rattle.std.specs.Prelude.{slice_get, string_bytes};
 ghost use Rattle.pg_base.specs.declared.limits.TheConstants.{MAX_MEMBERS};
 ghost use Rattle.pg_cert.specs.declared.limits.TheConstants.{MAX_CLAIMS};
-ghost use Rattle.pg_family_files.specs.Print.{signs_of};
 ghost use Rattle.pg_family_book.specs.Vectors.{claim_leaves, extra_words, rule_words, target_words};
 ghost use Rattle.pg_family_book.specs.Vectors.{vector_book_text, vector_by, vector_heads};
 ghost use Rattle.pg_family_book.specs.Vectors.{vector_leaf, vector_leaves, vector_role, vector_row};
@@ -14,10 +13,10 @@ use crate::leaf::{Leaf, Rows, Table};
 use crate::printing::print_leaves;
 use crate::rules::{put_number, put_text, said_words, set_words, whose};
 use pg_base::{Kind, Memory};
-use pg_captions::{Text, Texts};
+use pg_captions::{Text, Texts, signs_text, vector_count};
 use pg_cert::{Body, Cert, Claim};
-use pg_gf2::{MAX_VECTORS, VecGame};
-use std::alloc::{AllocError, Global};
+use pg_gf2::VecGame;
+use std::alloc::Global;
 
 /// What words mean in books of games on vectors.
 pub const LEGEND_VECTORS: &str = "Vectors are added entry by entry, and 1 and 1 make 0. Short \
@@ -48,34 +47,6 @@ fn vector_role(body: &Body, vector: u16) -> &'static str
         Body::Cuts { first, second, .. } => set_words(first.as_set(), second.as_set(), vector),
         _ => "",
     }
-}
-
-/// The sign of the lowest entry.
-fn lowest_sign(vector: u128) -> &'static str
-    ensures { result.now ≡ (48 + vector % 2) ∷ [] }
-{
-    if vector % 2 == 1 { "1" } else { "0" }
-}
-
-/// Adds the signs of a vector.
-fn put_signs(out: &mut String, rows: u8, vector: u128) -> Result<(), AllocError>
-    ensures { OnOk result (string_bytes out.new ≡ string_bytes out.old ++ signs_of rows vector) }
-{
-    let mut rest = vector;
-    for _row in 0..rows {
-        out.push_str(lowest_sign(rest))?;
-        rest /= 2;
-    }
-    Ok(())
-}
-
-/// The signs of a vector.
-fn signs_text(alloc: Global, rows: u8, vector: u128) -> Result<Text, Memory>
-    ensures { IfOk result (λ text. text ≡ signs_of rows vector) }
-{
-    let mut words = String::new(alloc);
-    put_signs(&mut words, rows, vector)?;
-    Ok(Text::from_string(words))
 }
 
 /// The row of a vector.
@@ -127,14 +98,6 @@ fn vector_at(vectors: &[u128], number: u16) -> Option<u128>
     vectors.get(usize::from(number)).copied()
 }
 
-/// How many vectors the game has.
-fn vector_count(g: &VecGame) -> u16
-    ensures count { result ≡ length g.now.vectors }
-    ensures few { result ≤ MAX_VECTORS }
-{
-    g.vectors.as_slice().len() as u16
-}
-
 /// The rows of all vectors.
 fn vector_rows(alloc: Global, g: &VecGame, body: &Body) -> Result<Vec<Texts>, Memory>
     ensures { IfOk result (λ rows. rows.items ≡ vector_rows g.now body.now) }
@@ -179,9 +142,10 @@ fn vector_table(alloc: Global, g: &VecGame, body: &Body) -> Result<Table, Memory
 fn target_words(alloc: Global, g: &VecGame) -> Result<Text, Memory>
     ensures { IfOk result (λ text. text ≡ target_words g.now) }
 {
+    let signs = signs_text(alloc, g.rows, g.target)?;
     let mut words = String::new(alloc);
     words.push_str("The target is ")?;
-    put_signs(&mut words, g.rows, g.target)?;
+    words.push_str(signs.as_str())?;
     words.push_str(".")?;
     Ok(Text::from_string(words))
 }

@@ -1,9 +1,10 @@
 -- The layout of a game, as the files of both say it.
 use Rattle.std.specs.Prelude.{◌≡◌, ℕ, is_none, if◌then◌else◌, List, Option, Some, None, Result, Ok}
 use Rattle.std.specs.Prelude.{Err, ⊤}
-use Rattle.pg_laying.specs.Prelude.{BoardEntry, Bytes, Connectivity, Fault, Faults, Field, Graph}
+use Rattle.pg_laying.specs.Prelude.{AnyEntry, Bytes, Connectivity, Fault, Faults, Field, Graph}
 use Rattle.pg_laying.specs.Prelude.{Halt, Holding, IsGameHalt, Lines, Positional, Refused, Spot}
-use Rattle.pg_laying.specs.Prelude.{StopCauses, Stopped, board_held, lacking, layout_of, number_of}
+use Rattle.pg_laying.specs.Prelude.{StopCauses, Stopped, Vectors, any_held, lacking, layout_of}
+use Rattle.pg_laying.specs.Prelude.{number_of}
 use Rattle.pg_laying.specs.declared.no_layout.NoLayout.{NoLayout}
 use Rattle.pg_laying.specs.declared.no_layout.NoLayout.TheVariants.{Faulty, Halted, OtherGame}
 
@@ -14,9 +15,10 @@ abbrev pub open_points_in : Field → Option ℕ
 open_points_in (Lines f) = if is_none f.grid then Some f.points else None
 open_points_in (Graph h) = None
 
-abbrev pub open_points : BoardEntry → Option ℕ
+abbrev pub open_points : AnyEntry → Option ℕ
 open_points (Positional e) = open_points_in e.field
 open_points (Connectivity e) = None
+open_points (Vectors e) = None
 
 -- the layout that was read, or its first fault
 abbrev pub layout_told : Result (List Spot) (Fault × ℕ) → Result (List Spot) NoLayout
@@ -34,13 +36,13 @@ placed_held None bytes = Err OtherGame
 placed_held (Some points) bytes = spots_held points bytes
 
 -- the layout of a game that was read, or why there is none
-abbrev pub layout_for : Result BoardEntry Halt → Option Bytes → Result (List Spot) NoLayout
+abbrev pub layout_for : Result AnyEntry Halt → Option Bytes → Result (List Spot) NoLayout
 layout_for (Err halt) bytes = Err (Halted halt)
 layout_for (Ok e) bytes = placed_held (open_points e) bytes
 
 -- the layout that two names contain, that of a game and that of the layout
 abbrev pub layout_held : Option Bytes → Option Bytes → Result (List Spot) NoLayout
-layout_held game layout = layout_for (board_held game) layout
+layout_held game layout = layout_for (any_held game) layout
 
 -- ---- what the code has read
 

@@ -1,6 +1,6 @@
 -- What the definitions of this crate name of std and of the crates below.
-pub use Rattle.pg_drawing.specs.Boards.{BoardEntry, board_entry, board_held}
-pub use Rattle.pg_drawing.specs.Boards.BoardEntry.{Connectivity, Positional}
+pub use Rattle.pg_drawing.specs.Boards.{AnyEntry, any_entry, any_held}
+pub use Rattle.pg_drawing.specs.Boards.AnyEntry.{Connectivity, Positional, Vectors}
 pub use Rattle.pg_drawing.specs.Runs.{EndsWith}
 pub use Rattle.pg_game.specs.declared.bounds.TheConstants.{MAX_POINTS}
 pub use Rattle.pg_game.specs.declared.field.Field.{Field}

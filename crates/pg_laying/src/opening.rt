@@ -1,6 +1,6 @@
 //! Reading a game and its layout.
 ghost use Rattle.std.specs.Prelude.{◌≡◌, ◌≤◌, IfErr, IfOk, IfSome, length};
-ghost use Rattle.pg_laying.specs.Prelude.{IsAbsent, IsLayout, MAX_POINTS, ReadsOnly, board_entry};
+ghost use Rattle.pg_laying.specs.Prelude.{IsAbsent, IsLayout, MAX_POINTS, ReadsOnly, any_entry};
 ghost use Rattle.pg_laying.specs.Laid.{IsLackingLayout, LayoutCauses, OpensLayout, OpensSpots};
 ghost use Rattle.pg_laying.specs.Laid.{IsLayoutHalt, open_points, open_points_in};
 
@@ -23,14 +23,14 @@ fn open_points_of(game: &Game) -> Option<u16>
     }
 }
 
-/// Returns how many points a game of any family has, if it is on lines without a grid.
+/// Returns how many points a game of any kind has, if it is on lines without a grid.
 fn open_points(board: &Board) -> Option<u16>
-    ensures points { result ≡ open_points (board_entry board.now) }
+    ensures points { result ≡ open_points (any_entry board.now) }
     ensures few { IfSome result (λ points. points ≤ MAX_POINTS) }
 {
     match board {
         Board::Positional(game) => open_points_of(game),
-        Board::Connectivity(_) => None,
+        Board::Connectivity(_) | Board::Vectors(_) => None,
     }
 }
 

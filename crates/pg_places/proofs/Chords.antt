@@ -61,11 +61,11 @@ all_apart far n = all_chords (λ u v. all_chords (same_or_apart far n u v) n) n
 abbrev AllApart : ℕ → ℕ → Type 0
 AllApart far limit = all_below (all_apart far) limit ≡ true
 
-seven_apart : AllApart 22 8
+eight_apart : AllApart 19 9
 unfolding all_below place_on_circle course_of
-seven_apart = refl
+eight_apart = refl
 
-twenty_apart : AllApart 4 21
+twenty_apart : AllApart 6 21
 unfolding all_below place_on_circle course_of
 twenty_apart = refl
 
@@ -166,17 +166,17 @@ chords_apart far limit n a b every few one two other =
     apart_by far limit n a b every few one two (ordered n a one) (ordered n b two) parts.0 parts.1
 
 pub few_apart : (n : ℕ) (a b : ℕ × ℕ)
-    → n ≤ 7
+    → n ≤ 8
     → IsChord n a
     → IsChord n b
     → have_same_ends a b ≡ false
-    → AreApart 22 (chord_place n a) (chord_place n b)
-few_apart n a b few = chords_apart 22 8 n a b seven_apart (omega arith)
+    → AreApart 19 (chord_place n a) (chord_place n b)
+few_apart n a b few = chords_apart 19 9 n a b eight_apart (omega arith)
 
 pub more_apart : (n : ℕ) (a b : ℕ × ℕ)
     → n ≤ 20
     → IsChord n a
     → IsChord n b
     → have_same_ends a b ≡ false
-    → AreApart 4 (chord_place n a) (chord_place n b)
-more_apart n a b few = chords_apart 4 21 n a b twenty_apart (omega arith)
+    → AreApart 6 (chord_place n a) (chord_place n b)
+more_apart n a b few = chords_apart 6 21 n a b twenty_apart (omega arith)

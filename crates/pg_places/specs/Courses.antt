@@ -32,9 +32,9 @@ abbrev pub IsNear : Course → Type 0
 IsNear course =
     IsWithin MAX_MIDDLE_REACH (place_on course) × IsWithin MAX_MIDDLE_REACH (middle_of course)
 
--- the place a third of the way from one place to another
-abbrev pub third : Place → Place → Place
-third a b = at ((2 * a.across + b.across) / 3) ((2 * a.down + b.down) / 3)
+-- the place two sevenths of the way from one place to another
+abbrev pub two_sevenths : Place → Place → Place
+two_sevenths a b = at ((5 * a.across + 2 * b.across) / 7) ((5 * a.down + 2 * b.down) / 7)
 
 -- what stands on an edge between vertices on a circle is near the first of its ends: near the one
 -- with the smaller number if the other is at most half a turn further, else near the other. So no
@@ -45,10 +45,12 @@ is_near_first vertices edge = if nat_le (2 * abs_diff edge.0 edge.1) vertices
     else nat_lt edge.1 edge.0
 
 -- part of the way from one place to another, in the direction of an edge: half of the way on the
--- board of Bridg-It, where no edges cross, else a third of it from the end that its number is near
+-- board of Bridg-It, where no edges cross, else two sevenths of it from the end that its number is
+-- near
 abbrev pub part_by : Option ℕ → ℕ → ℕ × ℕ → Place → Place → Place
 part_by (Some rows) vertices edge a b = midway a b
-part_by None vertices edge a b = if is_near_first vertices edge then third a b else third b a
+part_by None vertices edge a b =
+    if is_near_first vertices edge then two_sevenths a b else two_sevenths b a
 
 abbrev pub part_way : Plan → ℕ × ℕ → Place → Place → Place
 part_way plan edge a b = part_by plan.bridge plan.vertices edge a b

@@ -4,7 +4,7 @@ ghost use Rattle.pg_places.specs.Prelude.{count_by, MAX_EDGES};
 ghost use Rattle.pg_places.specs.Places.{IsPlan, IsWithin};
 ghost use Rattle.pg_places.specs.Courses.{IsNear, bend_of, beside, course_of, have_same_ends};
 ghost use Rattle.pg_places.specs.Courses.{is_near_first, middle_of, midway, on_bow, part_way};
-ghost use Rattle.pg_places.specs.Courses.{place_on, third};
+ghost use Rattle.pg_places.specs.Courses.{place_on, two_sevenths};
 
 use crate::measures::{BEND, LOOP, MAX_END_REACH, MAX_MIDDLE_REACH};
 use crate::vertices::Plan;
@@ -40,8 +40,8 @@ pub enum Course {
     },
 }
 
-/// The place half way between two.
-fn midway(a: Place, b: Place) -> Place
+/// Returns the place half way between two.
+pub fn midway(a: Place, b: Place) -> Place
     ensures { result ≡ midway a b }
 {
     Place {
@@ -50,16 +50,16 @@ fn midway(a: Place, b: Place) -> Place
     }
 }
 
-/// The place a third of the way from one place to another.
-fn third(a: Place, b: Place) -> Place
+/// The place two sevenths of the way from one place to another.
+fn two_sevenths(a: Place, b: Place) -> Place
     requires a { IsWithin MAX_MIDDLE_REACH a }
     requires b { IsWithin MAX_MIDDLE_REACH b }
-    ensures place { result ≡ third a b }
+    ensures place { result ≡ two_sevenths a b }
     ensures near { IsWithin MAX_MIDDLE_REACH result }
 {
     Place {
-        across: (2 * a.across + b.across) / 3,
-        down: (2 * a.down + b.down) / 3,
+        across: (5 * a.across + 2 * b.across) / 7,
+        down: (5 * a.down + 2 * b.down) / 7,
     }
 }
 
@@ -75,7 +75,7 @@ fn is_near_first(vertices: u32, edge: (u16, u16)) -> bool
 }
 
 /// The place part of the way from one place to another, in the direction of an edge: half of the
-/// way on a board of Bridg-It, else a third of it from the end that its number is near.
+/// way on a board of Bridg-It, else two sevenths of it from the end that its number is near.
 fn part_way(plan: Plan, edge: (u16, u16), a: Place, b: Place) -> Place
     requires a { IsWithin MAX_MIDDLE_REACH a }
     requires b { IsWithin MAX_MIDDLE_REACH b }
@@ -86,9 +86,9 @@ fn part_way(plan: Plan, edge: (u16, u16), a: Place, b: Place) -> Place
         Some(_) => midway(a, b),
         None => {
             if is_near_first(plan.vertices, edge) {
-                third(a, b)
+                two_sevenths(a, b)
             } else {
-                third(b, a)
+                two_sevenths(b, a)
             }
         }
     }
@@ -107,7 +107,7 @@ fn on_bow(plan: Plan, edge: (u16, u16), from: Place, bend: Place, to: Place) -> 
     part_way(plan, edge, first, second)
 }
 
-/// Where the number and the rings of an edge stand.
+/// Returns where the number and the rings of an edge stand.
 pub fn place_on(course: Course) -> Place
     ensures { result ≡ place_on course }
 {
@@ -135,7 +135,7 @@ fn have_same_ends(a: (u16, u16), b: (u16, u16)) -> bool
     (a.0 == b.0 && a.1 == b.1) || (a.0 == b.1 && a.1 == b.0)
 }
 
-/// How many of the edges have the same two ends as this one.
+/// Returns how many of the edges have the same two ends as this one.
 pub fn parallels(ends: &[(u16, u16)], edge: (u16, u16)) -> u32
     requires { length ends.now ≤ MAX_EDGES }
     ensures parallels { result ≡ count_by (have_same_ends edge) ends.now }

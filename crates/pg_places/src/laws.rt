@@ -42,17 +42,17 @@ pub fn points_of_layouts_lie_apart()
 {}
 
 /// Different edges between up to 20 vertices on a circle, each of which is the first between its
-/// ends, have places that are four units apart at least, across or down; between up to seven
-/// vertices they are 22 units apart.
+/// ends, have places that are six units apart at least, across or down; between up to eight
+/// vertices they are 19 units apart, so that no number covers another.
 pub fn edges_on_circles_lie_apart()
     ensures apart { (vertices : ℕ) → (a b : ℕ × ℕ) → vertices ≤ 20
         → IsChord vertices a
         → IsChord vertices b
         → have_same_ends a b ≡ false
-        → AreApart 4 (chord_place vertices a) (chord_place vertices b) }
-    ensures clear { (vertices : ℕ) → (a b : ℕ × ℕ) → vertices ≤ 7
+        → AreApart 6 (chord_place vertices a) (chord_place vertices b) }
+    ensures clear { (vertices : ℕ) → (a b : ℕ × ℕ) → vertices ≤ 8
         → IsChord vertices a
         → IsChord vertices b
         → have_same_ends a b ≡ false
-        → AreApart 22 (chord_place vertices a) (chord_place vertices b) }
+        → AreApart 19 (chord_place vertices a) (chord_place vertices b) }
 {}

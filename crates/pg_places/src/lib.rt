@@ -16,7 +16,7 @@ mod vertices;
 
 pub use bridge::{columns_of, place_on_bridge};
 pub use circle::{place_on_ring, radius_of};
-pub use course::{Course, course_of, parallels, place_on};
+pub use course::{Course, course_of, midway, parallels, place_on};
 pub use courses::Courses;
 pub use grid::place_on_grid;
 pub use laid::{place_of_spot, place_on_chart};

@@ -21,8 +21,8 @@ pub const LINE: u32 = 24;
 /// How far apart the vertices of a Bridg-It board are.
 pub const APART: u32 = 64;
 
-/// How much further from its ends each further edge between the same ends is bent.
-pub const BEND: u32 = 36;
+/// How much further each further edge between the same ends is bent.
+pub const BEND: u32 = 44;
 
 /// How far apart the loops at one vertex are.
 pub const LOOP: u32 = 30;

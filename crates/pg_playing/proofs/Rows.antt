@@ -3,7 +3,7 @@ use Rattle.std.proofs.Common.{◌≡◌, ◌∙◌, ℕ, ◌<◌, ◌≤◌, ◌
 use Rattle.std.specs.Prelude.{codes, Option, Some, None}
 use Rattle.std.proofs.Common.{append_assoc}
 use Rattle.std.proofs.lemmas.List.{append-nil}
-use Rattle.pg_table.proofs.Fit.{Whole, rows_keep, whole_and, whole_fits, whole_rows, wide_fits}
+use Rattle.pg_characters.proofs.Fit.{Whole, rows_keep, whole_and, whole_fits, whole_rows, wide_fits}
 use Rattle.pg_table.proofs.PrintedBoards.{whole_board}
 use Rattle.pg_table.proofs.PrintedLines.{whole_goals, whole_help, whole_open, whole_result}
 use Rattle.pg_table.proofs.PrintedLines.{wide_turn}

@@ -9,11 +9,12 @@ ghost use Rattle.pg_playing.specs.Turns.{Changes, turned};
 
 use crate::note::Note;
 use crate::screen::{answer, shown_of, shown_text};
+use pg_characters::Look;
 use pg_game::{Game, Illegal, Judge};
 use pg_io::{Console, Heard, Stop};
 use pg_messages::ReplyFault;
 use pg_record::Session;
-use pg_table::{Look, Reply, read_reply};
+use pg_table::{Reply, read_reply};
 use pg_talk::{MAX_REPLY, say_text, trimmed};
 use std::alloc::Global;
 

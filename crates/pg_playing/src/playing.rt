@@ -8,11 +8,11 @@ ghost use Rattle.pg_playing.specs.Playing.{names_of, turned_to};
 
 use crate::dialogue::{Table, play_at_table};
 use pg_base::Side;
+use pg_characters::Look;
 use pg_game::{Game, Judge};
 use pg_io::{Console, Files};
 use pg_messages::{DONE, Message};
 use pg_record::{Session, print_record};
-use pg_table::Look;
 use pg_talk::{Halt, deliver, open_game};
 use std::alloc::Global;
 

@@ -6,9 +6,10 @@ ghost use Rattle.pg_playing.specs.Screens.{shown_text};
 
 use crate::note::{Note, put_note};
 use pg_base::{Memory, Score};
+use pg_characters::{Look, Shown};
 use pg_game::{Game, Position};
 use pg_record::Session;
-use pg_table::{Look, Shown, put_board, put_goals, put_result, put_turn};
+use pg_table::{put_board, put_goals, put_result, put_turn};
 use std::alloc::{AllocError, Global};
 
 /// The point that was claimed last of those that weren't taken back.

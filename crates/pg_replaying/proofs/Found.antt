@@ -1,11 +1,10 @@
 -- What is due, from what was read.
 use Rattle.std.proofs.Common.{◌≡◌, ℕ, List, Option, Some, None, Result, Ok, Err, refl, sym, subst}
-use Rattle.pg_replaying.proofs.Common.{BoardEntry, Bytes, Finds, Game, Halt, Holding, IsFound, Look}
+use Rattle.pg_replaying.proofs.Common.{AnyEntry, Bytes, Finds, Game, Halt, Holding, IsFound, Look}
 use Rattle.pg_replaying.proofs.Common.{NoMeaning, Opens, Positional, Refused, Stopped, Telling}
-use Rattle.pg_replaying.proofs.Common.{board_entry, board_held, entry}
+use Rattle.pg_replaying.proofs.Common.{any_entry, any_held, entry}
 use Rattle.pg_drawing.specs.declared.board.Board.{Board}
 use Rattle.pg_drawing.specs.declared.board.Board.TheVariants as boards
-use Rattle.pg_span.specs.declared.game.SpanGame.{SpanGame}
 use Rattle.pg_replaying.specs.Due.{IsReadDue, IsRecordDue}
 use Rattle.pg_replaying.specs.Records.{moves_held}
 
@@ -33,29 +32,28 @@ module _ (look : Look) (count : Option ℕ) where
       → b ≡ boards.Positional g
       → (r : Result Telling Halt)
       → Finds h (λ held. IsReadDue look g count (moves_held g (held name))) r
-      → Finds h (λ held. IsRecordDue look count (Ok (board_entry b)) (held name)) r
+      → Finds h (λ held. IsRecordDue look count (Ok (any_entry b)) (held name)) r
   game_due b g None name is r due = tt
   game_due b g (Some held) name is r due =
-      subst (λ (b : Board). IsFound (IsRecordDue look count (Ok (board_entry b)) (held name)) r)
+      subst (λ (b : Board). IsFound (IsRecordDue look count (Ok (any_entry b)) (held name)) r)
       (sym is) (of_game g (held name) r due)
 
-  -- connectivity games aren't recorded
-  pub refusal_due : (b : Board) (g : SpanGame) (h : Option Holding) (name : Bytes)
-      → b ≡ boards.Connectivity g
-      → Finds h (λ held. IsRecordDue look count (Ok (board_entry b)) (held name))
+  -- games of other kinds aren't recorded
+  pub refusal_due : (b : Board) (h : Option Holding) (name : Bytes)
+      → ((bytes : Option Bytes) → IsFound (IsRecordDue look count (Ok (any_entry b)) bytes)
+      (Err (Refused NoMeaning)))
+      → Finds h (λ held. IsRecordDue look count (Ok (any_entry b)) (held name))
       (Err (Refused NoMeaning))
-  refusal_due b g None name is = tt
-  refusal_due b g (Some held) name is =
-      subst (λ (b : Board). IsFound (IsRecordDue look count (Ok (board_entry b)) (held name))
-      (Err (Refused NoMeaning))) (sym is) (refl, refl)
+  refusal_due b None name due = tt
+  refusal_due b (Some held) name due = due (held name)
 
   -- the game of a name
   pub board_due : (h : Option Holding) (game name : Bytes) (b : Board)
-      → Opens board_entry board_held h game (Ok b)
+      → Opens any_entry any_held h game (Ok b)
       → (r : Result Telling Halt)
-      → Finds h (λ held. IsRecordDue look count (Ok (board_entry b)) (held name)) r
-      → Finds h (λ held. IsRecordDue look count (board_held (held game)) (held name)) r
+      → Finds h (λ held. IsRecordDue look count (Ok (any_entry b)) (held name)) r
+      → Finds h (λ held. IsRecordDue look count (any_held (held game)) (held name)) r
   board_due None game name b opens r due = tt
   board_due (Some held) game name b opens r due =
-      subst (λ (read : Result BoardEntry Halt). IsFound (IsRecordDue look count read (held name)) r)
+      subst (λ (read : Result AnyEntry Halt). IsFound (IsRecordDue look count read (held name)) r)
       (sym opens) due

@@ -1,19 +1,18 @@
 -- WHAT IS SAID, with its status.
 use Rattle.std.specs.Prelude.{◌≡◌, ◌⊎◌, ℕ, ◌<◌, ◌≤◌, List, length, take, Option, Some, None, Result}
 use Rattle.std.specs.Prelude.{Ok, Err}
-use Rattle.pg_replaying.specs.Prelude.{BoardEntry, Bytes, Connectivity, DONE, Game, Halt, IsHaltDue}
-use Rattle.pg_replaying.specs.Prelude.{IsSaidBy, IsSceneOfMoves, Look, NO_MEANING, NoMeaning}
-use Rattle.pg_replaying.specs.Prelude.{Positional, Refused, Scene, is_over, position_after}
-use Rattle.pg_replaying.specs.Prelude.{scene_text}
+use Rattle.pg_replaying.specs.Prelude.{AnyEntry, Bytes, Connectivity, DONE, Draws, Game, Halt}
+use Rattle.pg_replaying.specs.Prelude.{IsHaltDue, IsSaidBy, IsSceneOfMoves, Look, NO_MEANING}
+use Rattle.pg_replaying.specs.Prelude.{NoMeaning}
+use Rattle.pg_replaying.specs.Prelude.{Positional, Refused, Vectors, is_over, position_after}
 use Rattle.pg_replaying.specs.Records.{moves_held}
 use Rattle.pg_replaying.specs.declared.drawing.TheConstants.{NO_MOVE}
 
 -- the text is that of the picture of a scene of the game after these moves
-pub record DrawsMoves (look : Look) (g : Game) (moves : List ℕ) (text : Bytes) : Type 0 where
-  pub scene : Scene
-  pub shown : IsSceneOfMoves look g (position_after g moves) (is_over g (position_after g moves))
-      moves scene
-  pub text_is : text ≡ scene_text look scene
+abbrev pub DrawsMoves : Look → Game → List ℕ → Bytes → Type 0
+DrawsMoves look g moves text =
+    Draws look (IsSceneOfMoves look g (position_after g moves) (is_over g (position_after g moves))
+    moves) text
 
 -- after how many moves the game is drawn: after all if no number is given
 abbrev pub wanted : Option ℕ → List ℕ → ℕ
@@ -39,13 +38,15 @@ IsReadDue look g count (Ok moves) text status =
 -- a game that was read, with what the name of its record contains, or why it wasn't
 abbrev pub IsRecordDue : Look
     → Option ℕ
-    → Result BoardEntry Halt
+    → Result AnyEntry Halt
     → Option Bytes
     → Bytes
     → ℕ
     → Type 0
 IsRecordDue look count (Err halt) bytes text status = IsHaltDue halt text status
 IsRecordDue look count (Ok (Connectivity e)) bytes text status =
+    IsHaltDue (Refused NoMeaning) text status
+IsRecordDue look count (Ok (Vectors e)) bytes text status =
     IsHaltDue (Refused NoMeaning) text status
 IsRecordDue look count (Ok (Positional e)) bytes text status =
     (g : Game) × IsSaidBy e g × IsReadDue look g count (moves_held g bytes) text status

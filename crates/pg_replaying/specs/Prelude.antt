@@ -1,8 +1,8 @@
 -- What the definitions of this crate name of std and of the crates below.
 pub use Rattle.pg_base.specs.Points.{AreBelow}
-pub use Rattle.pg_drawing.specs.Boards.{BoardEntry, board_entry, board_held}
-pub use Rattle.pg_drawing.specs.Boards.BoardEntry.{Connectivity, Positional}
-pub use Rattle.pg_drawing.specs.Due.{Finds, IsFound, IsHaltDue, scene_text}
+pub use Rattle.pg_drawing.specs.Boards.{AnyEntry, any_entry, any_held}
+pub use Rattle.pg_drawing.specs.Boards.AnyEntry.{Connectivity, Positional, Vectors}
+pub use Rattle.pg_drawing.specs.Due.{Draws, Finds, IsFound, IsHaltDue}
 pub use Rattle.pg_drawing.specs.Runs.{IsStopped, SaysNothing}
 pub use Rattle.pg_drawing.specs.declared.picturing.Telling.{Telling}
 pub use Rattle.pg_files.specs.Views.{entry}
@@ -26,7 +26,6 @@ pub use Rattle.pg_record.specs.declared.event.Event.{Event}
 pub use Rattle.pg_record.specs.declared.fault.Fault.{Fault}
 pub use Rattle.pg_scene.specs.Recorded.{IsSceneOfMoves}
 pub use Rattle.pg_captions.specs.declared.look.Look.{Look}
-pub use Rattle.pg_scene.specs.declared.scene.Scene.{Scene}
 pub use Rattle.pg_talk.specs.Halts.{HaltCauses, HasCause, IsGameHalt, stop_status}
 pub use Rattle.pg_talk.specs.Opening.{IsSaidBy}
 pub use Rattle.pg_talk.specs.Reading.{IsReadAs, Opens, held_as, lacking}

@@ -1,7 +1,7 @@
 //! Reading the game and the record, and what there is to draw of them.
 ghost use Rattle.std.specs.Prelude.{Ok, IfErr, IfOk};
 ghost use Rattle.pg_replaying.specs.Prelude.{Finds, HaltCauses, IsAbsent, Positional, ReadsOnly};
-ghost use Rattle.pg_replaying.specs.Prelude.{board_entry, board_held, entry};
+ghost use Rattle.pg_replaying.specs.Prelude.{any_entry, any_held, entry};
 ghost use Rattle.pg_replaying.specs.Due.{IsReadDue, IsRecordDue};
 ghost use Rattle.pg_replaying.specs.Records.{IsRecordHalt, moves_held};
 ghost use Rattle.pg_replaying.specs.Runs.{IsRecordEnd, LacksRecord, LacksRecordOf};
@@ -48,18 +48,19 @@ fn tell_on_board<F: Files>(
     order: RecordOrder<'_>,
 ) -> Result<Telling, Halt>
     ensures found { Finds (F.told files.old).held
-        (λ held. IsRecordDue look order.entry.moves (Ok (board_entry board.now))
+        (λ held. IsRecordDue look order.entry.moves (Ok (any_entry board.now))
         (held order.entry.record.now)) result }
     ensures status { IfOk result (λ told. IsRecordEnd told.status) }
     ensures halts { IfErr result IsRecordHalt }
     ensures causes { HaltCauses
-        (LacksRecordOf (Ok (board_entry board.now)) (F.told files.old).held order.entry.record.now)
+        (LacksRecordOf (Ok (any_entry board.now)) (F.told files.old).held order.entry.record.now)
         (F.told files.old).faults (F.told files.new).faults result }
     ensures kept { ReadsOnly (F.told files.old) (F.told files.new) }
 {
     match board {
         Board::Positional(game) => tell_on_game(alloc, look, files, game, order),
         Board::Connectivity(_) => Err(Halt::Refused(Refusal::NoMeaning)),
+        Board::Vectors(_) => Err(Halt::Refused(Refusal::NoMeaning)),
     }
 }
 
@@ -71,7 +72,7 @@ pub(crate) fn tell<F: Files>(
     files: &mut F,
 ) -> Result<Telling, Halt>
     ensures found { Finds (F.told files.old).held
-        (λ held. IsRecordDue look order.entry.moves (board_held (held order.entry.game.now))
+        (λ held. IsRecordDue look order.entry.moves (any_held (held order.entry.game.now))
         (held order.entry.record.now)) result }
     ensures status { IfOk result (λ told. IsRecordEnd told.status) }
     ensures halts { IfErr result IsRecordHalt }

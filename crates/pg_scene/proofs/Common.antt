@@ -6,6 +6,7 @@ pub use Rattle.pg_scene.specs.Prelude.{Parts, Position, Reply, Side, SpanBody, S
 pub use Rattle.pg_scene.specs.Prelude.{Trees, Vec, contains, count_by, decimal}
 pub use Rattle.pg_scene.specs.Prelude.{edge_count, field_points, filter, flat_map, greatest_length}
 pub use Rattle.pg_scene.specs.Prelude.{is_free, is_graph, is_on, is_touched, line_weight, lines_of}
+pub use Rattle.pg_scene.specs.Prelude.{VecGame, at_turn}
 pub use Rattle.pg_scene.specs.Prelude.{list_any, longest, marks_at, nat_cmp, point_count}
 pub use Rattle.pg_scene.specs.Prelude.{position_of, range_with_len, start, sum_by}
 unfoldable pub use Rattle.pg_scene.specs.Prelude.{free_points, point_weight}

@@ -6,4 +6,5 @@ pub mod ReadBack
 pub mod Scaled
 pub mod Named
 pub mod SpanWithin
+pub mod VectorWithin
 mod Lanes

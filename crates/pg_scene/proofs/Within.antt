@@ -22,7 +22,7 @@ use Rattle.pg_scene.specs.Items.{body_items, fault_items, line_item, line_items,
 use Rattle.pg_scene.specs.Items.{member_items, numbered, pair_item, point_items, reply_item}
 use Rattle.pg_captions.specs.Look.{seen_at}
 use Rattle.pg_scene.specs.Items.{seen_if, set_items, step_item, units, weight_items}
-use Rattle.pg_scene.specs.Limits.{IsBoard, IsItemOn, IsScene, points_on, terminals_on}
+use Rattle.pg_scene.specs.Limits.{IsBoard, IsItemOn, HasFurther, IsScene, points_on}
 use Rattle.pg_scene.specs.Recorded.{IsSceneOfMoves, move_items}
 use Rattle.pg_captions.specs.MoveLegends.{moves_by}
 use Rattle.pg_captions.proofs.Short.{game-few, moves-few, node-few}
@@ -141,7 +141,7 @@ on-members board n set edges le =
 
 on-sets : (board : Board) (g : Game) (with_e : Bool) (first second : FinSet nat_cmp)
     → point_count g ≤ points_on board
-    → (is_graph g.field ≡ true → terminals_on board ≡ 2)
+    → (is_graph g.field ≡ true → HasFurther board)
     → All (IsItemOn board) (set_items g with_e first second)
 on-sets board g with_e first second le two =
     let further = on-seen (IsItemOn board) (with_e && is_graph g.field) (items.Extra First)
@@ -161,7 +161,7 @@ on-steps board n points le = on-numbered (IsItemOn board) (step_item n)
 
 on-body : (board : Board) (g : Game) (p : Position) (side : Side) (body : Body)
     → point_count g ≤ points_on board
-    → (is_graph g.field ≡ true → terminals_on board ≡ 2)
+    → (is_graph g.field ≡ true → HasFurther board)
     → All (IsItemOn board) (body_items g p side body)
 on-body board g p side bodies.Over le two = All-nil (IsItemOn board)
 on-body board g p side (bodies.Move v child) le two =
@@ -237,7 +237,7 @@ board-laid (Some chart) None points h some few = elim (cases_Bool (chart.count =
 record Fitting (field : Field) (board : Board) : Type 0 where
   pub is_board : IsBoard board
   pub points : points_on board ≡ field_points field
-  pub two : is_graph field ≡ true → terminals_on board ≡ 2
+  pub two : is_graph field ≡ true → HasFurther board
 
 fitting : (kind : Kind) (bias : ℕ) (layout : Option Chart) (field : Field) (board : Board)
     → FieldFits kind field bias
@@ -265,7 +265,7 @@ fitting kind bias layout (OnGraph h) board fits is =
         is_bridge = is.found;
       });
       points = ap points_on is.same;
-      two = λ _. ap terminals_on is.same;
+      two = λ _. subst HasFurther (sym is.same) refl;
     }
 
 fitting-game : (g : Game) (layout : Option Chart) (board : Board)

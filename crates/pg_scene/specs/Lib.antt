@@ -4,4 +4,5 @@ pub mod Items
 pub mod Scenes
 pub mod Read
 pub mod SpanScenes
+pub mod VectorScenes
 pub mod Recorded

@@ -5,9 +5,10 @@ use Rattle.std.specs.Prelude.{IfSome}
 use Rattle.pg_scene.specs.Prelude.{All, MAX_EDGES}
 use Rattle.pg_game.specs.declared.bounds.TheConstants.{MAX_POINTS, MAX_LINE_POINTS, MAX_VERTICES}
 use Rattle.pg_gen.specs.Bridge.{bridge_ends, has_bridge}
+use Rattle.pg_gf2.specs.declared.game.TheConstants.{MAX_VECTORS}
 use Rattle.pg_graph.specs.declared.graph.Graph.{Graph as Multigraph}
 use Rattle.pg_scene.specs.declared.board.Board.{Board}
-use Rattle.pg_scene.specs.declared.board.Board.TheVariants.{Grid, Ring, Laid, Graph}
+use Rattle.pg_scene.specs.declared.board.Board.TheVariants.{Grid, Ring, Laid, Graph, Table}
 use Rattle.pg_scene.specs.declared.item.Item.{Item}
 use Rattle.pg_scene.specs.declared.item.Item.TheVariants.{Point, Line, Pair, Weight, Member, Extra}
 use Rattle.pg_scene.specs.declared.item.Item.TheVariants.{Step, Move, Reply, Part, Fault}
@@ -43,14 +44,16 @@ IsBoard (Grid width height) = (1 ≤ width * height) × (width * height ≤ MAX_
 IsBoard (Ring points) = (1 ≤ points) × (points ≤ MAX_POINTS)
 IsBoard (Laid chart) = (1 ≤ chart.count) × (chart.count ≤ MAX_POINTS)
 IsBoard (Graph vertices ends terminals bridge) = IsGraphBoard vertices ends terminals bridge
+IsBoard (Table rows target) = length rows ≤ MAX_VECTORS
 
--- how many points a board has: its cells, the places of its ring or of its
--- layout, or its edges
+-- how many points a board has: its cells, the places of its ring or of its layout, its edges, or
+-- its rows
 abbrev pub points_on : Board → ℕ
 points_on (Grid width height) = width * height
 points_on (Ring points) = points
 points_on (Laid chart) = chart.count
 points_on (Graph vertices ends terminals bridge) = length ends
+points_on (Table rows target) = length rows
 
 -- how many vertices it has
 abbrev pub vertices_on : Board → ℕ
@@ -58,13 +61,15 @@ vertices_on (Grid width height) = 0
 vertices_on (Ring points) = 0
 vertices_on (Laid chart) = 0
 vertices_on (Graph vertices ends terminals bridge) = vertices
+vertices_on (Table rows target) = 0
 
--- how many terminals
-abbrev pub terminals_on : Board → ℕ
-terminals_on (Grid width height) = 0
-terminals_on (Ring points) = 0
-terminals_on (Laid chart) = 0
-terminals_on (Graph vertices ends terminals bridge) = length terminals
+-- a board with a place for a further member of a set: the edge between two terminals, or the target
+abbrev pub HasFurther : Board → Type 0
+HasFurther (Grid width height) = ⊥
+HasFurther (Ring points) = ⊥
+HasFurther (Laid chart) = ⊥
+HasFurther (Graph vertices ends terminals bridge) = length terminals ≡ 2
+HasFurther (Table rows target) = Unit {0}
 
 -- an item that can stand on the board
 abbrev pub IsItemOn : Board → Item → Type 0
@@ -74,7 +79,7 @@ IsItemOn board (Line vs lane) =
 IsItemOn board (Pair v w number) = (v < points_on board) × (w < points_on board)
 IsItemOn board (Weight v weight) = v < points_on board
 IsItemOn board (Member v set) = v < points_on board
-IsItemOn board (Extra set) = terminals_on board ≡ 2
+IsItemOn board (Extra set) = HasFurther board
 IsItemOn board (Step v number) = v < points_on board
 IsItemOn board (Move v child) = v < points_on board
 IsItemOn board (Reply v child) = v < points_on board

@@ -20,6 +20,8 @@ pub use Rattle.pg_game.specs.declared.field.Field.{Field}
 pub use Rattle.pg_game.specs.declared.field.Field.TheVariants.{Lines}
 pub use Rattle.pg_game.specs.declared.game.Game.{Game}
 pub use Rattle.pg_game.specs.declared.position.Position.{Position}
+pub use Rattle.pg_gf2.specs.Classes.{at_turn}
+pub use Rattle.pg_gf2.specs.declared.game.VecGame.{VecGame}
 pub use Rattle.pg_graph.specs.Graph.{edge_count}
 pub use Rattle.pg_span.specs.Game.{marks_at}
 pub use Rattle.pg_span.specs.declared.cert.SpanBody.{SpanBody}

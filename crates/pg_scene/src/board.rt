@@ -1,5 +1,6 @@
 //! What a picture's items stand on.
 use pg_base::Points;
+use pg_captions::{Text, Texts};
 use pg_graph::Ends;
 use pg_layout::Chart;
 
@@ -34,5 +35,12 @@ pub enum Board {
         terminals: Points,
         /// The number of rows of the Bridg-It board that the graph is, where it is one.
         bridge: Option<u32>,
+    },
+    /// Vectors, a row each.
+    Table {
+        /// The signs of each vector.
+        rows: Texts,
+        /// The signs of the target, which one side wants as a sum.
+        target: Text,
     },
 }

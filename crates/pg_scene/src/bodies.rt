@@ -13,7 +13,7 @@ use pg_game::{Field, Game, Position};
 use std::alloc::Global;
 
 /// Puts the item, where the test holds.
-fn put_if(items: &mut Vec<Item>, seen: bool, item: Item) -> Result<(), Memory>
+pub(crate) fn put_if(items: &mut Vec<Item>, seen: bool, item: Item) -> Result<(), Memory>
     ensures { OnOk result (items.new.items ≡ items.old.items ++ seen_if seen item) }
 {
     if seen {

@@ -5,7 +5,7 @@ use pg_base::{Points, Side};
 use pg_captions::Text;
 use std::marker::Model;
 
-/// One of two sets of edges.
+/// One of two sets of edges or of vectors.
 #[derive(Clone, Copy, Debug, PartialEq, Eq)]
 pub enum Set {
     /// The first set.
@@ -17,7 +17,7 @@ pub enum Set {
 /// Something that is to be seen on a board.
 #[derive(Debug, Drop)]
 pub enum Item {
-    /// A point of the game: a cell, a place on the ring, or an edge.
+    /// A point of the game: a cell, a place on the ring, an edge, or a row of the table.
     Point {
         /// The point.
         point: u16,
@@ -47,14 +47,14 @@ pub enum Item {
         /// How many units it weighs, in decimal digits.
         weight: Text,
     },
-    /// An edge of a set.
+    /// An edge or a vector of a set.
     Member {
-        /// The edge.
+        /// The edge or the vector.
         point: u16,
         /// The set.
         set: Set,
     },
-    /// The further edge between the terminals, in a set.
+    /// The further edge between the terminals, or the target of a game on vectors, in a set.
     Extra {
         /// The set.
         set: Set,

@@ -3,6 +3,7 @@ ghost use Rattle.std.specs.Prelude.{◌≡◌, ◌<◌, ◌≤◌, ℕ, Bool, Li
 ghost use Rattle.pg_scene.specs.Prelude.{FinSet, All, flat_map, range_with_len, nat_cmp};
 ghost use Rattle.pg_scene.specs.Prelude.{points_below, Pair, position_of, Claim, Node, Reply};
 ghost use Rattle.pg_scene.specs.Prelude.{point_count, start, Game, Position, SpanClaim, SpanGame};
+ghost use Rattle.pg_scene.specs.Prelude.{VecGame};
 ghost use Rattle.pg_cert.specs.declared.node.Body.TheVariants as bodies;
 ghost use Rattle.pg_scene.specs.Items.{mark_of};
 ghost use Rattle.pg_captions.specs.Look.{seen_at};
@@ -13,6 +14,7 @@ ghost use Rattle.pg_scene.specs.Scenes.{IsSceneOf, IsSceneOfGame};
 ghost use Rattle.pg_captions.specs.declared.look.Look.{Look};
 ghost use Rattle.pg_scene.specs.declared.scene.Scene.{Scene};
 ghost use Rattle.pg_scene.specs.SpanScenes.{IsSceneOfSpan, IsSceneOfSpanGame};
+ghost use Rattle.pg_scene.specs.VectorScenes.{IsSceneOfVector, IsSceneOfVectorGame};
 
 /// Each item of a scene can stand on its board.
 pub fn scenes_can_be_laid_out()
@@ -100,4 +102,15 @@ pub fn span_scenes_can_be_laid_out()
         → IsSceneOfSpanGame look g scene → IsScene scene }
     ensures claims { (look : Look) → (g : SpanGame) → (claim : SpanClaim) → (fault : Option ℕ)
         → (scene : Scene) → IsSceneOfSpan look g claim fault scene → IsScene scene }
+{}
+
+/// The points of items are rows of the table, the table is within the limits, and the legend is
+/// short.
+pub fn vector_scenes_can_be_laid_out()
+    ensures games { (look : Look) → (g : VecGame) → (scene : Scene)
+        → IsSceneOfVectorGame look g scene → IsScene scene }
+    ensures nodes { (look : Look) → (g : VecGame) → (claim : Claim) → (k : ℕ)
+        → (node : Node) → (fault : Option ℕ) → (scene : Scene)
+        → IsSceneOfVector look g claim k node fault scene
+        → IsScene scene }
 {}

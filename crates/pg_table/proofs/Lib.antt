@@ -1,12 +1,4 @@
-pub mod Pieces
-pub mod Widths
 pub mod Kept
 pub mod ReadBack
-pub mod Ranges
-pub mod PaperPlaces
-pub mod PaperEnds
-pub mod Fit
-pub mod Printed
-pub mod PrintedCharts
 pub mod PrintedBoards
 pub mod PrintedLines

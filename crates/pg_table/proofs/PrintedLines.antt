@@ -21,19 +21,19 @@ use Rattle.pg_game.specs.declared.field.Field.TheVariants.{Lines, Graph as OnGra
 use Rattle.pg_game.specs.declared.game.Game.{Game}
 use Rattle.pg_game.specs.declared.position.Position.{Position}
 use Rattle.pg_graph.specs.declared.graph.Graph.{Graph}
-use Rattle.pg_table.specs.Bridges.{paper_rows}
-use Rattle.pg_table.specs.Marks.{letter_of}
-use Rattle.pg_table.specs.Names.{point_name}
+use Rattle.pg_characters.specs.Bridges.{paper_rows}
+use Rattle.pg_characters.specs.Marks.{letter_of}
+use Rattle.pg_characters.specs.Names.{point_name}
 use Rattle.pg_table.specs.OpenLines.{count_text, gap_text, is_kept, kept_lines}
 use Rattle.pg_table.specs.OpenLines.{line_text, lines_text, names_text, room_after, shown_lines}
 use Rattle.pg_table.specs.Words.{bias_text, field_goals, goals_on, goals_text, graph_goals}
 use Rattle.pg_table.specs.Words.{help_text, kind_goals, result_text, turn_text}
 use Rattle.pg_table.specs.declared.open_lines.TheConstants.{MAX_SHOWN_LINES}
 use Rattle.pg_table.specs.declared.words.TheConstants.{COMMANDS, PAPER_GOALS}
-use Rattle.pg_table.proofs.Fit.{Whole, Wide, ends_and, ends_feed, keeps, rows_keep, whole_and}
-use Rattle.pg_table.proofs.Fit.{whole_line, whole_none, whole_rows, wide_and, wide_less}
-use Rattle.pg_table.proofs.Fit.{wide_plain}
-use Rattle.pg_table.proofs.Printed.{wide_decimal, wide_name, wide_side}
+use Rattle.pg_characters.proofs.Fit.{Whole, Wide, ends_and, ends_feed, keeps, rows_keep, whole_and}
+use Rattle.pg_characters.proofs.Fit.{whole_line, whole_none, whole_rows, wide_and, wide_less}
+use Rattle.pg_characters.proofs.Fit.{wide_plain}
+use Rattle.pg_characters.proofs.Printed.{wide_decimal, wide_name, wide_side}
 
 -- ---- open lines
 

@@ -23,7 +23,7 @@ use Rattle.pg_text.proofs.Cuts.{no_parts}
 use Rattle.pg_text.proofs.Decimals.{IsDigit, decimal_digits, number_decimal}
 use Rattle.pg_text.proofs.PlainWords.{IsPlain, IsWord, decimal_is_word, lacks_space}
 use Rattle.pg_text.specs.Text.{number, two_parts}
-use Rattle.pg_table.specs.Names.{cell_name, column_name, letter}
+use Rattle.pg_characters.specs.Names.{cell_name, column_name, letter}
 use Rattle.pg_table.specs.Reply.{cell_at, field_point, is_letter, named_on}
 use Rattle.pg_table.specs.Reply.{number_or, read_command, read_reply}
 use Rattle.pg_table.specs.declared.reply.Named.TheVariants as named

@@ -7,13 +7,13 @@ use Rattle.pg_game.specs.declared.field.Field.{Field}
 use Rattle.pg_game.specs.declared.field.Field.TheVariants.{Lines, Graph as OnGraph}
 use Rattle.pg_game.specs.declared.game.Game.{Game}
 use Rattle.pg_layout.specs.declared.spot.Spot.{Spot}
-use Rattle.pg_table.specs.Bridges.{paper_rows}
-use Rattle.pg_table.specs.Charts.{chart_text, drawn_by}
-use Rattle.pg_table.specs.Entries.{entries_text}
+use Rattle.pg_characters.specs.Bridges.{paper_rows}
+use Rattle.pg_characters.specs.Charts.{chart_text, drawn_by}
+use Rattle.pg_characters.specs.Entries.{entries_text}
 use Rattle.pg_table.specs.OpenLines.{lines_text}
-use Rattle.pg_table.specs.Sheets.{sheet_text}
-use Rattle.pg_table.specs.declared.sheets.Sheet.TheVariants.{Cells, Paper}
-use Rattle.pg_table.specs.declared.shown.Shown.{Shown}
+use Rattle.pg_characters.specs.Sheets.{sheet_text}
+use Rattle.pg_characters.specs.declared.sheets.Sheet.TheVariants.{Cells, Paper}
+use Rattle.pg_characters.specs.declared.shown.Shown.{Shown}
 
 -- points that are no cells: at the places of a layout, or entries in rows
 abbrev pub placed_at : Game → Shown → Option (List Spot) → Bytes

@@ -1,12 +1,3 @@
-pub mod Columns
-pub mod Names
-pub mod Marks
-pub mod Entries
-pub mod Spots
-pub mod Bridges
-pub mod Paper
-pub mod Sheets
-pub mod Charts
 pub mod OpenLines
 pub mod Board
 pub mod Words

@@ -10,7 +10,7 @@ use Rattle.pg_game.specs.Game.{is_touched, lines_of}
 use Rattle.pg_game.specs.declared.field.Field.{Field}
 use Rattle.pg_game.specs.declared.game.Game.{Game}
 use Rattle.pg_game.specs.declared.position.Position.{Position}
-use Rattle.pg_table.specs.Names.{point_name}
+use Rattle.pg_characters.specs.Names.{point_name}
 use Rattle.pg_table.specs.declared.open_lines.TheConstants.{MAX_SHOWN_LINES, NAMES_IN_ROW}
 
 -- whether a line can still be filled: in Maker-Maker it lacks the points of one side, else those of

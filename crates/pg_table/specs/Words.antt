@@ -12,8 +12,8 @@ use Rattle.pg_game.specs.declared.field.Field.TheVariants.{Lines, Graph as OnGra
 use Rattle.pg_game.specs.declared.game.Game.{Game}
 use Rattle.pg_game.specs.declared.position.Position.{Position}
 use Rattle.pg_graph.specs.declared.graph.Graph.{Graph}
-use Rattle.pg_table.specs.Bridges.{paper_rows}
-use Rattle.pg_table.specs.Marks.{letter_of}
+use Rattle.pg_characters.specs.Bridges.{paper_rows}
+use Rattle.pg_characters.specs.Marks.{letter_of}
 use Rattle.pg_table.specs.declared.words.TheConstants.{COMMANDS, PAPER_GOALS}
 
 -- what each side wants in games of a kind on lines

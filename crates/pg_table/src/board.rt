@@ -3,13 +3,9 @@ ghost use Rattle.std.specs.Prelude.{◌≡◌, ◌++◌, OnOk, string_bytes};
 ghost use Rattle.pg_game.specs.Game.{point_count};
 ghost use Rattle.pg_table.specs.Board.{board_text, open_text, picture_text, placed_text};
 
-use crate::bridges::paper_rows;
-use crate::charts::put_chart;
-use crate::entries::put_entries;
 use crate::open_lines::put_lines;
-use crate::sheets::{Sheet, put_sheet};
-use crate::shown::Shown;
 use pg_base::Grid;
+use pg_characters::{Sheet, Shown, paper_rows, put_chart, put_entries, put_sheet};
 use pg_game::{Field, Game};
 use std::alloc::AllocError;
 

@@ -3,12 +3,12 @@ ghost use Rattle.std.specs.Prelude.{◌≡◌, ◌<◌, ◌≤◌, ◌++◌, ◌
 ghost use Rattle.std.specs.List.{All, count_by, list_any};
 ghost use Rattle.pg_base.specs.declared.limits.TheConstants.{MAX_MEMBERS};
 ghost use Rattle.pg_game.specs.Game.{lines_of, point_count};
-ghost use Rattle.pg_table.specs.Names.{point_name};
+ghost use Rattle.pg_characters.specs.Names.{point_name};
 ghost use Rattle.pg_table.specs.OpenLines.{count_text, gap_text, is_kept, is_open, line_text};
 ghost use Rattle.pg_table.specs.OpenLines.{lines_text, passes, room_after, shown_lines};
 
-use crate::names::put_name;
 use pg_base::{Kind, Line, MAX_MEMBERS};
+use pg_characters::put_name;
 use pg_game::{Game, Position};
 use std::alloc::AllocError;
 use std::fmt::Write;

@@ -3,9 +3,8 @@ ghost use Rattle.std.specs.Prelude.{◌≡◌, ◌++◌, OnOk, string_bytes};
 ghost use Rattle.pg_table.specs.Words.{bias_text, goals_text, help_text, result_text, turn_text};
 ghost use Rattle.pg_table.specs.Words.{graph_goals, kind_goals};
 
-use crate::bridges::paper_rows;
-use crate::marks::letter_of;
 use pg_base::{Kind, Score};
+use pg_characters::{letter_of, paper_rows};
 use pg_game::{Field, Game, Position};
 use pg_graph::Graph;
 use std::alloc::AllocError;

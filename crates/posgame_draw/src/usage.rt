@@ -1,6 +1,6 @@
 //! The command line of the program as `clap` reads it.
-use clap::{Arg, ArgAction, ArgMatches, Command, Error};
 use clap::builder::ValueParser;
+use clap::{Arg, ArgAction, ArgMatches, Command, Error};
 use pg_binding::BookOrder;
 use pg_captions::{Legend, Look};
 use pg_draw::MAX_BOARDS;

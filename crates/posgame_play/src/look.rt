@@ -1,5 +1,5 @@
 //! How a board is shown on this terminal.
-use pg_table::{COLUMNS, Look};
+use pg_characters::{COLUMNS, Look};
 use std::env;
 use std::io::IsTerminal;
 

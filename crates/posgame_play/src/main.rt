@@ -7,6 +7,7 @@ mod look;
 mod usage;
 
 use pg_base::Side;
+use pg_characters::Look;
 use pg_computer::{VersusOrder, versus};
 use pg_duel::{Challenge, duel};
 use pg_finder::ProofNumbers;
@@ -19,7 +20,6 @@ use pg_messages::{NO_MEMORY, NO_WORDS};
 use pg_playing::{Order, play};
 use pg_results::end_early;
 use pg_settle::Budget;
-use pg_table::Look;
 use pg_talk::Halt;
 use std::alloc::Global;
 use std::env;

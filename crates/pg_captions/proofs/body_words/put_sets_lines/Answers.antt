@@ -4,7 +4,6 @@ use Rattle.pg_captions.proofs.body_words.put_sets_lines.Goals as goal
 pub returns : goal.returns
 returns c = rw (
   c.in_ok-put_if.ensures,
-  c.in_ok-put_line-3.ensures,
-  c.in_ok-put_line-2.ensures,
   c.in_ok-put_line.ensures,
+  c.in_ok-put_seen.ensures,
 ) (simp append_assoc)

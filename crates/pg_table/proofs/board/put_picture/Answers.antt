@@ -1,7 +1,7 @@
 use Rattle.std.proofs.Common.{arith, subst, sym}
-use Rattle.pg_table.specs.Sheets.{IsSheet}
-use Rattle.pg_table.specs.declared.sheets.Sheet.TheVariants.{Cells}
-use Rattle.pg_table.proofs.Widths.{few_columns, few_rows, some_columns}
+use Rattle.pg_characters.specs.Sheets.{IsSheet}
+use Rattle.pg_characters.specs.declared.sheets.Sheet.TheVariants.{Cells}
+use Rattle.pg_characters.proofs.Widths.{few_columns, few_rows, some_columns}
 use Rattle.pg_table.proofs.board.put_picture.Goals as goal
 
 pub put_sheet-requires : goal.put_sheet-requires

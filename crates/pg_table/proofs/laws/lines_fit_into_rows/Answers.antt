@@ -2,7 +2,7 @@ use Rattle.std.proofs.Common.{[], arith}
 use Rattle.pg_table.specs.Words.{goals_text, help_text, result_text, turn_text}
 use Rattle.pg_table.specs.Board.{board_text}
 use Rattle.pg_table.specs.OpenLines.{lines_text}
-use Rattle.pg_table.proofs.Fit.{whole_fits, whole_none, wide_fits}
+use Rattle.pg_characters.proofs.Fit.{whole_fits, whole_none, wide_fits}
 use Rattle.pg_table.proofs.PrintedBoards.{whole_board}
 use Rattle.pg_table.proofs.PrintedLines.{whole_goals, whole_help, whole_open, whole_result}
 use Rattle.pg_table.proofs.PrintedLines.{wide_turn}

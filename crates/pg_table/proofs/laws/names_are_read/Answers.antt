@@ -9,7 +9,7 @@ use Rattle.pg_game.specs.declared.field.Field.{Field}
 use Rattle.pg_game.specs.declared.field.Field.TheVariants.{Lines, Graph}
 use Rattle.pg_game.specs.declared.field.LineField.{LineField}
 use Rattle.pg_game.specs.declared.game.Game.{Game}
-use Rattle.pg_table.specs.Names.{line_point_name, point_name}
+use Rattle.pg_characters.specs.Names.{line_point_name, point_name}
 use Rattle.pg_table.specs.Reply.{read_reply}
 use Rattle.pg_table.specs.declared.reply.Reply.TheVariants.{Point}
 use Rattle.pg_table.proofs.ReadBack.{cell_read, number_read}

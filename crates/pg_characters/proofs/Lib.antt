@@ -1,0 +1,9 @@
+pub mod Pieces
+pub mod Widths
+pub mod Ranges
+pub mod PaperPlaces
+pub mod PaperEnds
+pub mod Fit
+pub mod Printed
+pub mod PrintedCharts
+pub mod PrintedSheets
