@@ -1,9 +1,8 @@
 -- WHAT IS PRINTED, with its status.
 use Rattle.std.specs.Prelude.{◌≡◌, ◌⊎◌, ◌≤◌, ℕ, true, Option, Result, Ok, Err, string_bytes}
 use Rattle.pg_binding.specs.Prelude.{Bytes, Cert, Chart, DONE, Evidence, Game, Halt, IsHaltDue}
-use Rattle.pg_binding.specs.Prelude.{IsPlayTree, IsSaidBy, IsSpanValid, IsValid, IsVecValid}
-use Rattle.pg_binding.specs.Prelude.{Memory}
-use Rattle.pg_binding.specs.Prelude.{Refusal, has_sets, node_count}
+use Rattle.pg_binding.specs.Prelude.{IsPlayTree, IsSaidBy, IsSpanValid, IsUnplayed, IsValid}
+use Rattle.pg_binding.specs.Prelude.{IsVecValid, Memory, Refusal, has_sets, node_count}
 use Rattle.pg_binding.specs.Prelude.{RejectsEvidence, RejectsSpan, RejectsVectors, SpanCert}
 use Rattle.pg_binding.specs.Prelude.{SpanGame, StandsFor, Stopped, Telling, VecGame, book_text}
 use Rattle.pg_binding.specs.Prelude.{refusal_status, refusal_text, span_book_text, span_entry}
@@ -21,9 +20,10 @@ pub record IsPlayedOut (g : Game) (cert tree : Cert) : Type 0 where
   pub valid : IsValid g tree
   pub few : node_count tree.claims ≤ MAX_PAGES
 
--- what is shown of a certificate: itself, or its tree of play
+-- what is shown of a certificate: its tree of play, or itself where that isn't due
 abbrev pub IsShownAs : Game → Cert → Cert → Type 0
-IsShownAs g cert shown = (shown ≡ cert) ⊎ IsPlayedOut g cert shown
+IsShownAs g cert shown =
+    ((shown ≡ cert) × IsUnplayed g cert MAX_PAGES) ⊎ IsPlayedOut g cert shown
 
 -- the book, with that layout and to that depth if there are such, of what is shown of the
 -- certificate for which this one stands, which is valid

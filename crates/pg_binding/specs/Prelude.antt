@@ -32,6 +32,7 @@ pub use Rattle.pg_messages.specs.declared.statuses.TheConstants.{DONE, FAULTY_GA
 pub use Rattle.pg_messages.specs.declared.statuses.TheConstants.{NO_MEMORY, READ_FAILED, REFUSED}
 pub use Rattle.pg_messages.specs.declared.statuses.TheConstants.{WRITE_FAILED}
 pub use Rattle.pg_play_tree.specs.Tree.{IsPlayTree, has_sets}
+pub use Rattle.pg_play_tree.specs.Unplayed.{IsUnplayed}
 pub use Rattle.pg_span.specs.Valid.{IsFirstFlaw, IsSpanValid}
 pub use Rattle.pg_span.specs.declared.cert.SpanCert.{SpanCert}
 pub use Rattle.pg_span.specs.declared.flaw.SpanFlaw.{SpanFlaw}

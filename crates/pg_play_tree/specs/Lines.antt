@@ -1,5 +1,6 @@
 -- Lines of play: what a side's player does from its opening on, whatever the other side replies.
-use Rattle.std.specs.Prelude.{◌≡◌, ◌⊎◌, ℕ, ◌-◌, List, [], ◌∷◌, length, Some}
+use Rattle.std.specs.Prelude.{◌≡◌, ◌≢◌, ◌⊎◌, ℕ, ◌-◌, ◌<◌, List, [], ◌∷◌, length, Some}
+use Rattle.std.specs.List.{All, AllPairs}
 use Rattle.pg_play_tree.specs.Prelude.{Cert, Game, MakesMove, Play, Position, Side, TakesReply}
 use Rattle.pg_play_tree.specs.Prelude.{Waits, arrives, chosen_claim, start}
 
@@ -10,9 +11,14 @@ pub record Opens (g : Game) (cert : Cert) (side : Side) (a : Play) : Type 0 wher
   pub position : a.position ≡ start g
   pub standing : arrives a.claim.nodes (length a.claim.nodes - 1) ≡ Some a.standing
 
+-- v leads the player on: it is the player's own move, or the player waits and takes it, a legal
+-- reply
+abbrev pub Plays : Play → Play → ℕ → Type 0
+Plays a b v = MakesMove a b v ⊎ (Waits a × TakesReply a b v)
+
 -- the player makes its own move, or it waits and takes a legal reply
 abbrev pub Follows : Play → Play → Type 0
-Follows a b = (v : ℕ) × (MakesMove a b v ⊎ (Waits a × TakesReply a b v))
+Follows a b = (v : ℕ) × Plays a b v
 
 -- where the player stands along a line of play from its opening on, the last first
 abbrev pub IsLine : Game → Cert → Side → List Play → Type 0
@@ -32,3 +38,18 @@ pub record IsOwnMove (g : Game) (cert : Cert) (side : Side) (p : Position) (v : 
   pub comes : ComesTo g cert side before
   pub position : before.position ≡ p
   pub makes : MakesMove before now v
+
+-- ---- the positions to which lines of play lead
+
+-- a line of play comes to the position
+abbrev pub IsMet : Game → Cert → Side → Position → Type 0
+IsMet g cert side p = (a : Play) × ComesTo g cert side a × (a.position ≡ p)
+
+-- different positions, to each of which a line of play comes
+pub record AreMet (g : Game) (cert : Cert) (side : Side) (ps : List Position) : Type 0 where
+  pub met : All (IsMet g cert side) ps
+  pub different : AllPairs (λ p q. p ≢ q) ps
+
+-- lines of play come to more positions than so many
+abbrev pub MeetsMore : Game → Cert → Side → ℕ → Type 0
+MeetsMore g cert side most = (ps : List Position) × AreMet g cert side ps × (most < length ps)

@@ -1,9 +1,9 @@
 -- WHAT A TREE OF PLAY IS.
-use Rattle.std.specs.Prelude.{◌≡◌, Bool, true, false}
+use Rattle.std.specs.Prelude.{◌≡◌, Bool, map, true, false}
 use Rattle.std.specs.List.{All as Each, AllZip, list_any}
 use Rattle.pg_play_tree.specs.Prelude.{All, Body, Cert, Claim, Cuts, Game, IsGameOf, Move, Node}
 use Rattle.pg_play_tree.specs.Prelude.{One, Over, Position, Side, Trees, position_of}
-use Rattle.pg_play_tree.specs.Lines.{IsOwnMove}
+use Rattle.pg_play_tree.specs.Lines.{AreMet, IsOwnMove}
 
 -- the game is over, the other side replies, or the side makes its player's own move
 abbrev pub IsPlayedBody : Game → Cert → Side → Position → Body → Type 0
@@ -15,12 +15,14 @@ IsPlayedBody g cert side p _ = ⊥
 abbrev pub IsPlayedNode : Game → Cert → Side → Node → Type 0
 IsPlayedNode g cert side n = IsPlayedBody g cert side (position_of n) n.body
 
--- a claim with the same turn, side and goal whose nodes are those of the side's player in the game
+-- a claim with the same turn, side and goal whose nodes are those of the side's player in the game:
+-- no two have the same position, and a line of play comes to each
 pub record IsPlayed (g : Game) (cert : Cert) (claim tree : Claim) : Type 0 where
   pub turn : tree.turn ≡ claim.turn
   pub side : tree.side ≡ claim.side
   pub goal : tree.goal ≡ claim.goal
   pub nodes : Each (IsPlayedNode g cert claim.side) tree.nodes
+  pub met : AreMet g cert claim.side (map position_of tree.nodes)
 
 -- the same in the game in which the claim's turn is the turn
 abbrev pub IsClaimTree : Game → Cert → Claim → Claim → Type 0

@@ -1,8 +1,9 @@
 //! The positions to which a side's player comes, whatever the other side replies.
-ghost use Rattle.std.specs.Prelude.{◌≡◌, ◌++◌, ◌∷◌, [], ◌<◌, ◌≤◌, IfOk, IfSome, length};
-ghost use Rattle.std.specs.List.{All};
-ghost use Rattle.pg_play_tree.specs.Prelude.{MAX_MEMBERS};
-ghost use Rattle.pg_play_tree.specs.Places.{IsPlace, is_next};
+ghost use Rattle.std.specs.Prelude.{◌≡◌, ◌≢◌, ◌++◌, ◌∷◌, [], ◌<◌, ◌≤◌, IfOk, IfSome, None, Ok};
+ghost use Rattle.std.specs.Prelude.{false, length};
+ghost use Rattle.pg_play_tree.specs.Prelude.{MAX_MEMBERS, chosen_claim, point_count};
+ghost use Rattle.pg_play_tree.specs.Lines.{MeetsMore};
+ghost use Rattle.pg_play_tree.specs.Places.{AreFound, IsNew, is_next};
 
 use crate::place::{Place, Step, place_after};
 use pg_base::{Memory, Side};
@@ -12,7 +13,8 @@ use std::alloc::Global;
 
 /// Returns the index of the place at a position, if there is one.
 pub(crate) fn index_at(places: &[Place], position: &Position) -> Option<usize>
-    ensures { IfSome result (λ k. k < length places.now) }
+    ensures found { IfSome result (λ k. k < length places.now) }
+    ensures new { result ≡ None → IsNew places.now position.now }
 {
     for k in 0..places.len() {
         if places[k].position.is_same(position) {
@@ -55,11 +57,15 @@ fn add_after(
     most: usize,
 ) -> Result<bool, Memory>
     requires index { k < length places.old.items }
-    requires point { v < MAX_MEMBERS }
-    requires places { All (IsPlace checked.game.now checked.cert.now side) places.old.items }
-    ensures places { IfOk result (λ _.
-        All (IsPlace checked.entry.game.now checked.entry.cert.now side) places.new.items) }
-    ensures longer { IfOk result (λ _. length places.old.items ≤ length places.new.items) }
+    requires point { v < point_count checked.game.now }
+    requires found { AreFound checked.game.now checked.cert.now side places.old.items }
+    requires few { length places.old.items ≤ most }
+    ensures found { IfOk result (λ _.
+        AreFound checked.entry.game.now checked.entry.cert.now side places.new.items) }
+    ensures size { IfOk result (λ _. (length places.old.items ≤ length places.new.items)
+        × (length places.new.items ≤ most)) }
+    ensures many { result ≡ Ok false
+        → MeetsMore checked.entry.game.now checked.entry.cert.now side most }
 {
     let (position, step) = (places[k].position, places[k].step);
     if !is_next(step, &position, v) {
@@ -69,13 +75,13 @@ fn add_after(
     if index_at(places.as_slice(), &next).is_some() {
         return Ok(true);
     }
+    let line = with_point(alloc, places[k].points.as_slice(), v)?;
+    let Some(place) = place_after(alloc, checked, side, line)? else {
+        unreachable!()
+    };
     if places.len() >= most {
         return Ok(false);
     }
-    let line = with_point(alloc, places[k].points.as_slice(), v)?;
-    let Some(place) = place_after(alloc, checked, side, line)? else {
-        return Ok(false);
-    };
     places.push(place)?;
     Ok(true)
 }
@@ -91,9 +97,14 @@ fn expand(
     most: usize,
 ) -> Result<bool, Memory>
     requires index { k < length places.old.items }
-    requires places { All (IsPlace checked.game.now checked.cert.now side) places.old.items }
-    ensures places { IfOk result (λ _.
-        All (IsPlace checked.entry.game.now checked.entry.cert.now side) places.new.items) }
+    requires found { AreFound checked.game.now checked.cert.now side places.old.items }
+    requires few { length places.old.items ≤ most }
+    ensures found { IfOk result (λ _.
+        AreFound checked.entry.game.now checked.entry.cert.now side places.new.items) }
+    ensures size { IfOk result (λ _. (length places.old.items ≤ length places.new.items)
+        × (length places.new.items ≤ most)) }
+    ensures many { result ≡ Ok false
+        → MeetsMore checked.entry.game.now checked.entry.cert.now side most }
 {
     for v in 0..checked.game.points() {
         if !add_after(alloc, checked, side, places, k, v, most)? {
@@ -111,11 +122,16 @@ pub(crate) fn explore(
     side: Side,
     most: usize,
 ) -> Result<Option<Vec<Place>>, Memory>
-    ensures { IfOk result (λ found. IfSome found
-        (λ places. All (IsPlace checked.entry.game.now checked.entry.cert.now side) places.items)) }
+    requires { chosen_claim checked.game.now checked.cert.now side ≢ None }
+    ensures found { IfOk result (λ found. IfSome found (λ places.
+        AreFound checked.entry.game.now checked.entry.cert.now side places.items)) }
+    ensures size { IfOk result (λ found. IfSome found
+        (λ places. (0 < length places.items) × (length places.items ≤ most))) }
+    ensures many { result ≡ Ok None
+        → MeetsMore checked.entry.game.now checked.entry.cert.now side most }
 {
     let Some(first) = place_after(alloc, checked, side, Vec::new(alloc))? else {
-        return Ok(None);
+        unreachable!()
     };
     let mut places = Vec::new(alloc);
     places.push(first)?;

@@ -1,7 +1,8 @@
 //! Lines of play of a side's player, and where they lead.
-ghost use Rattle.std.specs.Prelude.{IfOk, IfSome};
-ghost use Rattle.pg_play_tree.specs.Lines.{ComesTo};
-ghost use Rattle.pg_play_tree.specs.Places.{Continues, IsNext, IsPlace};
+ghost use Rattle.std.specs.Prelude.{◌≡◌, ◌≢◌, IfOk, IfSome, None, Ok, true};
+ghost use Rattle.pg_play_tree.specs.Lines.{Plays};
+ghost use Rattle.pg_play_tree.specs.Places.{CanOpen, CanPlay, CanPlayAll, IsNext, IsPlace};
+ghost use Rattle.pg_play_tree.specs.Places.{Leads, OpensTo};
 
 use pg_base::{Memory, Side};
 use pg_check::Checked;
@@ -34,7 +35,8 @@ pub(crate) struct Place {
 /// Plays the point: as the player's own move if the player owes one, and otherwise as a reply.
 /// Returns whether it could be played so.
 fn play_point(player: &mut Player<'_>, v: u16) -> bool
-    ensures { Continues player.old player.new }
+    ensures plays { result ≡ true → Plays player.old player.new v }
+    ensures able { CanPlay player.old v → result ≡ true }
 {
     match player.first() {
         Some(own) => own == v,
@@ -44,7 +46,8 @@ fn play_point(player: &mut Player<'_>, v: u16) -> bool
 
 /// Plays the points one after the other. Returns whether all could be played.
 fn play_points(player: &mut Player<'_>, points: &[u16]) -> bool
-    ensures { Continues player.old player.new }
+    ensures leads { result ≡ true → Leads player.old points.now player.new }
+    ensures able { CanPlayAll player.old points.now → result ≡ true }
 {
     for v in points {
         if !play_point(player, *v) {
@@ -61,8 +64,10 @@ fn player_after<'a>(
     side: Side,
     points: &[u16],
 ) -> Result<Option<Player<'a>>, Memory>
-    ensures { IfOk result (λ found. IfSome found
-        (λ player. ComesTo checked.entry.game.now checked.entry.cert.now side player)) }
+    ensures opens { IfOk result (λ found. IfSome found
+        (λ player. OpensTo checked.entry.game.now checked.entry.cert.now side points.now player)) }
+    ensures able { CanOpen checked.entry.game.now checked.entry.cert.now side points.now
+        → result ≢ Ok None }
 {
     let mut player = match Player::open(alloc, checked, side) {
         Ok(player) => player,
@@ -95,8 +100,11 @@ pub(crate) fn place_after(
     side: Side,
     points: Vec<u16>,
 ) -> Result<Option<Place>, Memory>
-    ensures { IfOk result (λ found. IfSome found
+    ensures place { IfOk result (λ found. IfSome found
         (IsPlace checked.entry.game.now checked.entry.cert.now side)) }
+    ensures points { IfOk result (λ found. IfSome found (λ place. place.points ≡ points)) }
+    ensures able { CanOpen checked.entry.game.now checked.entry.cert.now side points.items
+        → result ≢ Ok None }
 {
     let Some(mut player) = player_after(alloc, checked, side, points.as_slice())? else {
         return Ok(None);

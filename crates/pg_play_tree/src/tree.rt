@@ -1,8 +1,12 @@
 //! The tree of play of a certificate.
-ghost use Rattle.std.specs.Prelude.{◌≡◌, ◌≢◌, ◌≤◌, IfOk, IfSome, None, Ok, false, length, true};
+ghost use Rattle.std.specs.Prelude.{◌≡◌, ◌≢◌, ◌⊎◌, ◌≤◌, IfOk, IfSome, None, Ok, false, length};
+ghost use Rattle.std.specs.Prelude.{min, true};
 ghost use Rattle.std.specs.List.{All, AllZip};
 ghost use Rattle.pg_play_tree.specs.Prelude.{IsClaim, IsValid, IsWithinLimits, Switching};
-ghost use Rattle.pg_play_tree.specs.Prelude.{node_count};
+ghost use Rattle.pg_play_tree.specs.Prelude.{MAX_CLAIM_NODES, MAX_NODES, chosen_claim, node_count};
+ghost use Rattle.pg_play_tree.specs.Lines.{MeetsMore};
+ghost use Rattle.pg_play_tree.specs.Places.{IsClaimOf};
+ghost use Rattle.pg_play_tree.specs.Unplayed.{IsLarge, IsTooLarge, IsUnplayed};
 ghost use Rattle.pg_play_tree.specs.Tree.{IsClaimTree, IsPlayTree, IsPlayed, has_sets};
 ghost use Rattle.pg_play_tree.specs.Tree.{is_by_sets, some_by_sets};
 
@@ -11,7 +15,7 @@ use crate::nodes::nodes_of;
 use crate::turned::turned_copy;
 use pg_base::{Kind, Memory};
 use pg_cert::{Body, Cert, Claim, Claims, MAX_CLAIM_NODES, MAX_NODES, Node, Nodes, Version};
-use pg_check::{CheckFault, Checked, check};
+use pg_check::{CheckFault, Checked, check, faults_are_told};
 use pg_game::Game;
 use std::alloc::Global;
 
@@ -47,21 +51,19 @@ fn played_claim(
     claim: &Claim,
     most: u32,
 ) -> Result<Option<Claim>, Memory>
+    requires { chosen_claim checked.game.now checked.cert.now claim.now.side ≢ None }
     ensures played { IfOk result (λ found. IfSome found
         (IsPlayed checked.entry.game.now checked.entry.cert.now claim.now)) }
     ensures limits { IfOk result (λ found. IfSome found IsClaim) }
     ensures few { IfOk result (λ found. IfSome found (λ tree. length tree.nodes ≤ most)) }
+    ensures many { result ≡ Ok None → MeetsMore checked.entry.game.now checked.entry.cert.now
+        claim.now.side (min most MAX_CLAIM_NODES) }
 {
-    let Some(places) = explore(alloc, checked, claim.side, most as usize)? else {
+    let limit = most.min(MAX_CLAIM_NODES);
+    let Some(places) = explore(alloc, checked, claim.side, limit as usize)? else {
         return Ok(None);
     };
-    let Some(nodes) = nodes_of(alloc, checked.game, places.as_slice())? else {
-        return Ok(None);
-    };
-    let limit = most.min(MAX_CLAIM_NODES) as usize;
-    if nodes.is_empty() || nodes.len() > limit {
-        return Ok(None);
-    }
+    let nodes = nodes_of(alloc, checked.game, places.as_slice())?;
     Ok(Some(Claim {
         turn: claim.turn,
         side: claim.side,
@@ -79,11 +81,15 @@ fn claim_tree(
 ) -> Result<Option<Claim>, Memory>
     requires kind { checked.game.now.kind ≡ Switching }
     requires limits { IsWithinLimits checked.cert.now }
+    requires claim { IsClaimOf claim.now checked.cert.now }
     ensures tree { IfOk result (λ found. IfSome found
         (IsClaimTree checked.entry.game.now checked.entry.cert.now claim.now)) }
     ensures limits { IfOk result (λ found. IfSome found IsClaim) }
     ensures few { IfOk result (λ found. IfSome found (λ tree. length tree.nodes ≤ most)) }
+    ensures many { result ≡ Ok None
+        → IsLarge checked.entry.game.now checked.entry.cert.now claim.now most }
 {
+    faults_are_told();
     let turned = turned_copy(alloc, checked.game, claim.turn)?;
     match check(alloc, &turned, checked.cert) {
         Ok(at_turn) => played_claim(alloc, at_turn, claim, most),
@@ -101,6 +107,8 @@ fn claim_trees(alloc: Global, checked: Checked<'_>, most: u32) -> Result<Option<
         checked.entry.cert.now.claims trees.items)) }
     ensures limits { IfOk result (λ found. IfSome found (λ trees. All IsClaim trees.items)) }
     ensures few { IfOk result (λ found. IfSome found (λ trees. node_count trees.items ≤ most)) }
+    ensures many { result ≡ Ok None
+        → IsTooLarge checked.entry.game.now checked.entry.cert.now most }
 {
     let claims = checked.cert.claims.as_slice();
     let mut trees = Vec::new(alloc);
@@ -118,8 +126,10 @@ fn claim_trees(alloc: Global, checked: Checked<'_>, most: u32) -> Result<Option<
 /// Whether the certificate is valid for the game.
 fn is_valid(alloc: Global, game: &Game, cert: &Cert) -> Result<bool, Memory>
     requires { IsWithinLimits cert.now }
-    ensures { IfOk result (λ valid. valid ≡ true → IsValid game.now cert.now) }
+    ensures valid { IfOk result (λ valid. valid ≡ true → IsValid game.now cert.now) }
+    ensures faulty { result ≡ Ok false → IsValid game.now cert.now → ⊥ }
 {
+    faults_are_told();
     match check(alloc, game, cert) {
         Ok(_) => Ok(true),
         Err(CheckFault::Reject { .. }) => Ok(false),
@@ -135,8 +145,8 @@ fn is_valid(alloc: Global, game: &Game, cert: &Cert) -> Result<bool, Memory>
 /// claims have the same side and turn, all are played by the one that `Player::open` chooses.
 ///
 /// None comes for games of other kinds and if no node rests on trees or cuts. It also comes if
-/// there would be more than `most` nodes; that it comes in no other case is only tested. The time
-/// grows with the square of the number of nodes.
+/// there would be more than `most` nodes. That the tree which is found is never refused by the
+/// checker isn't proved. The time grows with the square of the number of nodes.
 ///
 /// # Errors
 ///
@@ -149,8 +159,11 @@ pub fn play_tree(alloc: Global, checked: Checked<'_>, most: u32) -> Result<Optio
     ensures limits { IfOk result (λ found. IfSome found IsWithinLimits) }
     ensures few { IfOk result
         (λ found. IfSome found (λ tree. node_count tree.claims ≤ most)) }
-    ensures other_kinds { checked.entry.game.now.kind ≢ Switching → result ≡ Ok None }
-    ensures no_sets { has_sets checked.entry.cert.now ≡ false → result ≡ Ok None }
+    ensures without { (checked.entry.game.now.kind ≢ Switching)
+        ⊎ (has_sets checked.entry.cert.now ≡ false)
+        → result ≡ Ok None }
+    ensures none { result ≡ Ok None
+        → IsUnplayed checked.entry.game.now checked.entry.cert.now (min most MAX_NODES) }
 {
     if checked.game.kind != Kind::Switching {
         return Ok(None);

@@ -1,4 +1,4 @@
-use Rattle.std.proofs.Common.{◌∙◌, Ok, ap, inl, refl}
+use Rattle.std.proofs.Common.{◌∙◌, Ok, ap, inl, inr, refl}
 use Rattle.pg_binding.proofs.Found.{book_shown, tree_shown}
 use Rattle.pg_binding.proofs.telling.shown_book.Goals as goal
 
@@ -11,7 +11,7 @@ returns-in-Some c =
     let cert = c.args.checked.cert.now in
     book_shown g cert c.in-Some.tree c.args.layout c.args.depth c.whole_book.result
     (tree_shown g cert c.in-Some.tree c.play_tree.result
-    (c.in_ok-tree.was ∙ ap Ok c.in-Some.is) c.play_tree.ensures.no_sets
+    (c.in_ok-tree.was ∙ ap Ok c.in-Some.is) (λ none. c.play_tree.ensures.without (inr none))
     (rw c.in-Some.is at c.in_ok-tree.ensures.tree)
     (rw c.in-Some.is at c.in_ok-tree.ensures.valid)
     (rw c.in-Some.is at c.in_ok-tree.ensures.few))
@@ -21,4 +21,6 @@ pub returns-in-None : goal.returns-in-None
 returns-in-None c =
     let cert = c.args.checked.cert.now in
     book_shown c.args.checked.game.now cert cert c.args.layout c.args.depth
-    c.whole_book-in-None.result (inl refl) c.whole_book-in-None.ensures
+    c.whole_book-in-None.result
+    (inl (refl, c.play_tree.ensures.none (c.in_ok-tree.was ∙ ap Ok c.in-None.is)))
+    c.whole_book-in-None.ensures
