@@ -2,20 +2,19 @@
 pub use Rattle.pg_base.proofs.Stands.{list_any-map}
 pub use Rattle.pg_base.specs.declared.score.Score.TheVariants.{Draw, XWins, YWins}
 pub use Rattle.pg_base.specs.declared.side.Side.TheVariants.{X, Y}
-pub use Rattle.pg_computer.specs.Prelude.{AreTrials, Breaks, Budget, Bytes, Changes, ConsoleTold}
-pub use Rattle.pg_computer.specs.Prelude.{Course, Does, Done, End, Ended, Entry, Event, Failed}
-pub use Rattle.pg_computer.specs.Prelude.{FilesTold, Finished, Follows, Game, Goes, Halt, Heard}
+pub use Rattle.pg_computer.specs.Prelude.{Allows, AreTrials, Breaks, Budget, Bytes, Changes, Closes}
+pub use Rattle.pg_computer.specs.Prelude.{ConsoleTold, Course, Does, Done, End, Ended, Entry, Event}
+pub use Rattle.pg_computer.specs.Prelude.{Failed, FilesTold, Finished, Follows, Game, Halt, Heard}
 pub use Rattle.pg_computer.specs.Prelude.{Holding, Illegal, IsGameAt, IsMadeForGame, IsPosition}
-pub use Rattle.pg_computer.specs.Prelude.{LeadsBy, Look, MAX_EVENTS, MAX_HEARD, Memory, Note}
-pub use Rattle.pg_computer.specs.Prelude.{OpensGame, Outcome, Play, Position, Read, Recorded}
-pub use Rattle.pg_computer.specs.Prelude.{Refusal, Refused, Reply, Runs, Said, Score, Side, Skipped}
-pub use Rattle.pg_computer.specs.Prelude.{Stage, Starved, Stop, Stopped, Stops, Stores, Trial, Turn}
-pub use Rattle.pg_computer.specs.Prelude.{Write, after, after_answer, after_log, after_shown}
-pub use Rattle.pg_computer.specs.Prelude.{all_known, answer_text, best, bias_of, ending_at, entry}
-pub use Rattle.pg_computer.specs.Prelude.{find, game_held, has_score, is_free, is_same_side}
-pub use Rattle.pg_computer.specs.Prelude.{judged_move, known_scores, lowest_free, note_of_lines}
-pub use Rattle.pg_computer.specs.Prelude.{other, place, point_count, position_after, read_reply}
-pub use Rattle.pg_computer.specs.Prelude.{start, stop_end, talk, trimmed, turned, turned_to, value}
+pub use Rattle.pg_computer.specs.Prelude.{IsSeated, LeadsBy, Leaves, Listens, Look, MAX_EVENTS}
+pub use Rattle.pg_computer.specs.Prelude.{MAX_HEARD, Memory, Notes, OpensGame, Outcome, Play}
+pub use Rattle.pg_computer.specs.Prelude.{Position, Read, Recorded, Refusal, Refused, Runs, Said}
+pub use Rattle.pg_computer.specs.Prelude.{Score, Shows, Side, Skipped, Stalls, Starved, Stop}
+pub use Rattle.pg_computer.specs.Prelude.{Stopped, Stops, Stores, Table, TableStage, Trial, Write}
+pub use Rattle.pg_computer.specs.Prelude.{after, all_known, best, bias_of, entry, find, game_held}
+pub use Rattle.pg_computer.specs.Prelude.{has_score, is_free, is_same_side, judged_move}
+pub use Rattle.pg_computer.specs.Prelude.{known_scores, lowest_free, other, place, point_count}
+pub use Rattle.pg_computer.specs.Prelude.{position_after, start, stop_end, talk, turned_to, value}
 pub use Rattle.pg_computer.specs.Prelude.{won_by}
 unfoldable pub use Rattle.pg_computer.specs.Prelude.{free_points, is_over, standing}
 pub use Rattle.pg_game.proofs.FreePoints.{any-free_points}
@@ -35,18 +34,11 @@ pub use Rattle.pg_moves.specs.declared.trial.Worth.{Worth}
 pub use Rattle.pg_moves.specs.declared.trial.Worth.TheVariants.{Known, Unknown}
 pub use Rattle.pg_opponent.proofs.Recording.{free_is_judged, has_room, legal_more, no_events}
 pub use Rattle.pg_pairing.proofs.Filters.{find_member, find_none}
-pub use Rattle.pg_playing.proofs.Courses.{breaks_here, breaks_read, breaks_then, goes_then}
-pub use Rattle.pg_playing.proofs.Stages.{beyond_stage, claimed_stage, has_ending, refused_stage}
-pub use Rattle.pg_playing.proofs.Stages.{shown_goes_on}
 pub use Rattle.pg_record.proofs.Standing.{legal-point, legal-standing, played-more}
-pub use Rattle.pg_sessions.proofs.Courses.{course_heard, course_nothing, course_said, course_then}
 pub use Rattle.pg_sessions.proofs.Standing.{same-value}
 pub use Rattle.pg_talk.proofs.Delivering.{stopped_first}
 pub use Rattle.pg_talk.proofs.Openings.{not_opened, opened}
-pub use Rattle.pg_talk.proofs.Parts.{hears_then}
-pub use Rattle.pg_talk.proofs.Runs.{kept, runs_halt}
-pub use Rattle.pg_talk.proofs.Speaking.{Grows-then}
-pub use Rattle.pg_talk.specs.Talk.{with_left}
+pub use Rattle.pg_talk.proofs.Runs.{runs_halt}
 pub use Rattle.std.proofs.lemmas.Bool.{and_parts, cases_eq, false≢true, not-true}
 pub use Rattle.std.proofs.lemmas.List.{get_or-map, length-map, length-take-le, length_push}
 pub use Rattle.std.proofs.lemmas.List.{map-append, take-map, take_more}

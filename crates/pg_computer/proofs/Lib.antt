@@ -1,6 +1,4 @@
 mod Common
 pub mod Keeping
 pub mod Standing
-pub mod More
 pub mod Parts
-pub mod Runs

@@ -1,27 +1,23 @@
--- Parts of a log, put together.
-use Rattle.std.proofs.Common.{◌≡◌, ◌∙◌, ℕ, ◌+◌, ◌<◌, Bool, true, false, not, List, [], ◌∷◌, ◌++◌}
-use Rattle.std.proofs.Common.{Result, Ok, Err, is_ok, refl, sym, subst, inl, inr}
-use Rattle.std.specs.Prelude.{IfOk}
-use Rattle.pg_computer.proofs.Common.{Budget, Bytes, ConsoleTold, Course, Event, Game, Goes, Heard}
-use Rattle.pg_computer.proofs.Common.{Illegal, Look, MAX_HEARD, Outcome, Play, Position, Recorded}
-use Rattle.pg_computer.proofs.Common.{Reply, Side, Stage, Stop, after_shown, and_parts, goes_then}
-use Rattle.pg_computer.proofs.Common.{is_over, is_same_side, not-true, place, read_reply}
-use Rattle.pg_computer.proofs.Common.{shown_goes_on, trimmed}
+-- What a line leaves, and what is allowed.
+use Rattle.std.proofs.Common.{◌≡◌, ◌∙◌, ℕ, true, false, not, List, [], ◌∷◌, ◌++◌, Result, Ok, Err}
+use Rattle.std.proofs.Common.{if◌then◌else◌, is_ok, refl, sym, subst, inl, inr}
+use Rattle.pg_computer.proofs.Common.{Allows, Budget, Closes, Ended, Entry, Event, Game, Heard}
+use Rattle.pg_computer.proofs.Common.{Illegal, Leaves, Listens, Look, Notes, Outcome, Play}
+use Rattle.pg_computer.proofs.Common.{Position}
+use Rattle.pg_computer.proofs.Common.{Recorded, Said, Shows, Side, Skipped, Stalls, TableStage}
+use Rattle.pg_computer.proofs.Common.{and_parts, is_over, is_same_side, judged_move, not-true}
+use Rattle.pg_computer.proofs.Common.{place}
 use Rattle.pg_opponent.specs.Fits.{MayPlay}
+use Rattle.pg_playing.specs.Dialogue.{AfterTurn}
+use Rattle.pg_playing.specs.declared.bout.Turn.{Turn}
+use Rattle.pg_playing.specs.declared.bout.Turn.TheVariants as turns
 use Rattle.pg_record.specs.Session.{refusal_of}
 use Rattle.pg_computer.specs.Points.{ArePoints, Keeps}
-use Rattle.pg_computer.specs.VersusLog.{Acts, IsShown, Leads, Listens, Quiet, Shows, Steps, StepsBy}
-use Rattle.pg_computer.specs.VersusLog.{Takes, is_own}
+use Rattle.pg_computer.specs.VersusLog.{Steps, is_own, versus_rules}
 use Rattle.pg_computer.proofs.Keeping.{chooses_before}
-use Rattle.pg_computer.proofs.More.{goes_more, steps_more}
 use Rattle.pg_computer.proofs.Standing.{points_more}
 
 -- ---- what is kept
-
--- a fact holds at whatever is returned
-pub always : {T : Type 0} {P : Type 0} (r : Result T Stop) → P → IfOk r (λ _. P)
-always (Ok x) p = p
-always (Err stop) p = tt
 
 -- a legal point more
 pub keeps_more : (old new : Recorded) (v : ℕ)
@@ -37,25 +33,23 @@ keeps_more old new v same events may are = (
       (points_more old.game old.events are v may)),
 )
 
--- nothing has changed
-pub keeps_same : (old new : Recorded)
-    → new.game ≡ old.game
-    → new.events ≡ old.events
-    → ArePoints old.game old.events
-    → Keeps old new
-keeps_same old new same events are = (
-  same,
-  subst (λ (g : Game). ArePoints g new.events) (sym same)
-      (subst (λ (es : List Event). ArePoints old.game es) (sym events) are),
-)
-
-pub keeps_then : (old mid new : Recorded) → Keeps old mid → Keeps mid new → Keeps old new
-keeps_then old mid new first second = (second.0 ∙ first.0, second.1)
-
 -- a point that was played
 pub played_may : (r : Result Position Illegal) → Ok tt ≡ refusal_of r → is_ok r ≡ true
 played_may (Ok p) e = refl
 played_may (Err why) e = absurd cc
+
+-- a point that was claimed, or refused
+pub points_played : (old new : Recorded) (v : ℕ) (found : Result (Unit {0}) Illegal)
+    → found ≡ refusal_of (judged_move old.game (place old.game old.events) v)
+    → new.events ≡ (if is_ok found then old.events ++ Play v ∷ [] else old.events)
+    → new.game ≡ old.game
+    → ArePoints old.game old.events
+    → ArePoints new.game new.events
+points_played old new v (Ok _) is more same are = (keeps_more old new v same more
+    (played_may (judged_move old.game (place old.game old.events) v) is) are).1
+points_played old new v (Err why) is more same are =
+    subst (λ (g : Game). ArePoints g new.events) (sym same)
+    (subst (λ (es : List Event). ArePoints old.game es) (sym more) are)
 
 -- a point that may be claimed isn't refused
 pub may_played : (r : Result Position Illegal) (found : Result (Unit {0}) Illegal) (why : Illegal)
@@ -75,126 +69,58 @@ pub own_going : (side : Side) (g : Game) (events : List Event)
 own_going side g events own = not-true (is_over g (place g events))
     (and_parts (not (is_over g (place g events))) (is_same_side (place g events).turn side) own).0
 
--- ---- work on the same game
+-- what holds before a change and after it
+pub after_turn : (M : Type 0) (turn : Turn) → M → AfterTurn M M turn
+after_turn M turns.Moved holds = holds
+after_turn M (turns.Noted note) holds = holds
+after_turn M turns.Ended holds = holds
 
-pub quiet_from : {T : Type 0} (side : Side) (g h : Game) (a b : ConsoleTold) (s : Stage)
-    (r : Result T Stop) (to : T → Stage)
-    → h ≡ g
-    → Goes (Quiet side h) a b s r to
-    → Goes (Quiet side g) a b s r to
-quiet_from side g h a b s r to same goes =
-    subst (λ (k : Game). Goes (Quiet side k) a b s r to) same goes
-
--- ---- a line
-
--- work from the stage that the line leads to
-pub acts_from : {T : Type 0} (side : Side) (g : Game) (a b : ConsoleTold) (events : List Event)
-    (heard : ℕ) (asked reply : Reply) (r : Result T Stop) (to : T → Stage) (next : Stage)
-    → reply ≡ asked
-    → Leads side g events heard asked next
-    → Goes (Quiet side g) a b next r to
-    → Acts side g a b events heard reply r to
-acts_from side g a b events heard asked reply r to next is leads goes =
-    subst (λ (k : Reply). Acts side g a b events heard k r to) (sym is) (next, leads, goes)
-
--- the same of what a line asks for
-pub acts_asked : {T : Type 0} (side : Side) (g : Game) (a b : ConsoleTold) (events : List Event)
-    (heard : ℕ) (asked reply : Reply) (r : Result T Stop) (to : T → Stage)
-    → reply ≡ asked
-    → Acts side g a b events heard asked r to
-    → Acts side g a b events heard reply r to
-acts_asked side g a b events heard asked reply r to is acts =
-    subst (λ (k : Reply). Acts side g a b events heard k r to) (sym is) acts
-
--- a line was heard, and what it asks for was done
-module _ {T : Type 0} (side : Side) (g : Game) (a b c : ConsoleTold) (events : List Event)
-    (heard : ℕ) (line : Bytes) (r : Result T Stop) (to : T → Stage)
-    (hears : (m : Stage) → Quiet side g (Listens events heard) (Heard line) m
-    → Course (Quiet side g) a b (Listens events heard) m) where
-  pub heard_acts : Acts side g b c events (heard + 1) (read_reply g.field (trimmed line)) r to
-      → Goes (Quiet side g) a c (Listens events heard) r to
-  heard_acts (next, leads, goes) =
-      goes_then (Quiet side g) a b c (Listens events heard) next r to (hears next leads) goes
-
--- ---- what is printed
+-- ---- a finder that may bring no less
 
 module _ (Brings Before : Game → Budget → Outcome → Type 0) (budget : Budget) (look : Look)
-    (side : Side)
+    (side : Side) (g : Game)
     (more : (other : Game) (allowed : Budget) (later : Outcome) → Brings other allowed later
     → Before other allowed later) where
-  takes_before : (g : Game) (events : List Event) (heard : ℕ) (text : Bytes) (next : Stage)
-      → Takes Brings budget side g events heard text next
-      → Takes Before budget side g events heard text next
-  takes_before g events heard text next (c, own, chooses, said, leads) = (
+  steps_before : (s : TableStage) (entry : Entry) (t : TableStage)
+      → Steps Brings budget look side g s entry t
+      → Steps Before budget look side g s entry t
+  steps_before (Shows events heard) (Said text) t (inl (c, own, chooses, said, leads)) = inl (
     c,
     own,
     chooses_before Brings Before budget more g (place g events) c chooses,
     said,
     leads,
   )
+  steps_before (Shows events heard) (Said text) t (inr shown) = inr shown
+  steps_before (Shows events heard) (Heard line) t step = absurd step
+  steps_before (Shows events heard) (Skipped line) t step = absurd step
+  steps_before (Shows events heard) Ended t step = absurd step
+  steps_before (Listens events heard) (Said text) t step = absurd step
+  steps_before (Listens events heard) (Heard line) t step = step
+  steps_before (Listens events heard) (Skipped line) t step = step
+  steps_before (Listens events heard) Ended t step = step
+  steps_before (Notes events heard note) (Said text) t step = step
+  steps_before (Notes events heard note) (Heard line) t step = absurd step
+  steps_before (Notes events heard note) (Skipped line) t step = absurd step
+  steps_before (Notes events heard note) Ended t step = absurd step
+  steps_before (Leaves events) (Said text) t step = step
+  steps_before (Leaves events) (Heard line) t step = absurd step
+  steps_before (Leaves events) (Skipped line) t step = absurd step
+  steps_before (Leaves events) Ended t step = absurd step
+  steps_before (Closes events) (Said text) t step = absurd step
+  steps_before (Closes events) (Heard line) t step = absurd step
+  steps_before (Closes events) (Skipped line) t step = absurd step
+  steps_before (Closes events) Ended t step = absurd step
+  steps_before (Stalls events) (Said text) t step = absurd step
+  steps_before (Stalls events) (Heard line) t step = absurd step
+  steps_before (Stalls events) (Skipped line) t step = absurd step
+  steps_before (Stalls events) Ended t step = absurd step
 
-  -- a finder that may bring no less claims a point
-  pub goes_taken : {T : Type 0} (g h : Game) (a b : ConsoleTold) (s : Stage) (r : Result T Stop)
-      (to : T → Stage)
+  pub versus_allows : (shown : Look) (h : Game)
+      → shown ≡ look
       → h ≡ g
-      → Goes (StepsBy (Takes Brings budget side h) side h) a b s r to
-      → Goes (Steps Before budget look side g) a b s r to
-  goes_taken g h a b s r to same goes = subst
-      (λ (k : Game). Goes (Steps Before budget look side k) a b s r to) same
-      (goes_more (StepsBy (Takes Brings budget side h) side h) (Steps Before budget look side h)
-      (steps_more (Takes Brings budget side h) _
-      (λ events heard text next takes. inl (takes_before h events heard text next takes)) side h)
-      a b s r to goes)
-
-  -- and so with all that is printed
-  pub goes_before : {T : Type 0} (g h : Game) (a b : ConsoleTold) (s : Stage) (r : Result T Stop)
-      (to : T → Stage)
-      → h ≡ g
-      → Goes (Steps Brings budget look side h) a b s r to
-      → Goes (Steps Before budget look side g) a b s r to
-  goes_before g h a b s r to same goes = subst
-      (λ (k : Game). Goes (Steps Before budget look side k) a b s r to) same
-      (goes_more (Steps Brings budget look side h) (Steps Before budget look side h)
-      (steps_more _ _ (λ events heard text next prints. elim prints [
-        | inl takes ↦ inl (takes_before h events heard text next takes)
-        | inr shown ↦ inr shown
-      ]) side h) a b s r to goes)
-
-module _ (Brings : Game → Budget → Outcome → Type 0) (budget : Budget) (look : Look) (side : Side)
-  where
-    -- the board is shown
-    pub goes_shown : {T : Type 0} (g h : Game) (a b : ConsoleTold) (s : Stage) (r : Result T Stop)
-        (to : T → Stage)
-        → h ≡ g
-        → Goes (StepsBy (IsShown look side h) side h) a b s r to
-        → Goes (Steps Brings budget look side g) a b s r to
-    goes_shown g h a b s r to same goes = subst
-        (λ (k : Game). Goes (Steps Brings budget look side k) a b s r to) same
-        (goes_more (StepsBy (IsShown look side h) side h) (Steps Brings budget look side h)
-        (steps_more (IsShown look side h) _ (λ events heard text next shown. inr shown) side h)
-        a b s r to goes)
-
-    -- nothing is claimed or taken back
-    pub goes_quiet : {T : Type 0} (g : Game) (a b : ConsoleTold) (s : Stage) (r : Result T Stop)
-        (to : T → Stage)
-        → Goes (Quiet side g) a b s r to
-        → Goes (Steps Brings budget look side g) a b s r to
-    goes_quiet g a b s r to goes =
-        goes_more (Quiet side g) (Steps Brings budget look side g)
-        (steps_more _ _ (λ events heard text next none. absurd none) side g) a b s r to goes
-
-    -- a line after others
-    module _ (g : Game) (a b c : ConsoleTold) (ended : Bool) (events : List Event) (heard : ℕ)
-        (going : ended ≡ false) (room : heard < MAX_HEARD)
-        (so_far : Course (Steps Brings budget look side g) a b (Shows [] 0)
-        (after_shown ended events heard)) where
-      listening : Course (Steps Brings budget look side g) a b (Shows [] 0) (Listens events heard)
-      listening = subst (λ (k : Stage). Course (Steps Brings budget look side g) a b (Shows [] 0) k)
-          (shown_goes_on ended events heard going room) so_far
-
-      -- a line, and where it leads
-      pub line_leads : {T : Type 0} (r : Result T Stop) (to : T → Stage)
-          → Goes (Steps Brings budget look side g) b c (Listens events heard) r to
-          → Goes (Steps Brings budget look side g) a c (Shows [] 0) r to
-      line_leads r to goes = goes_then (Steps Brings budget look side g) a b c (Shows [] 0)
-          (Listens events heard) r to listening goes
+      → Allows (versus_rules Before budget look side g) (versus_rules Brings budget shown side h)
+  versus_allows shown h looks same = subst (λ (k : Look × Game).
+      Allows (versus_rules Before budget look side g) (versus_rules Brings budget k.0 side k.1))
+      (λ i. (sym looks i, sym same i))
+      (record { same_game = refl; steps = steps_before; holds = λ events are. are })

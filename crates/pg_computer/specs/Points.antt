@@ -1,8 +1,8 @@
 -- Sessions from which no point was taken back, and who has claimed which of their points.
 use Rattle.std.specs.Prelude.{◌≡◌, ◌<◌, ℕ, Bool, true, false, not, List, length, map, take, Option}
 use Rattle.std.specs.Prelude.{Some, None}
-use Rattle.pg_computer.specs.Prelude.{Event, Game, IsMadeForGame, IsRecord, Play, Recorded, Room}
-use Rattle.pg_computer.specs.Prelude.{Side, is_same_side, position_after, standing}
+use Rattle.pg_computer.specs.Prelude.{Budget, Event, Game, IsBudget, IsRecord, IsSeated, Play}
+use Rattle.pg_computer.specs.Prelude.{Recorded, Side, Table, is_same_side, position_after, standing}
 
 -- the events are those of a session, in which these points were claimed and none was taken back
 pub record ArePoints (g : Game) (events : List Event) : Type 0 where
@@ -10,21 +10,19 @@ pub record ArePoints (g : Game) (events : List Event) : Type 0 where
   pub are : events ≡ map Play points
   pub allowed : IsRecord g events
 
--- they are those of a session of this game
-abbrev pub IsSession : Game → Recorded → Type 0
-IsSession g session = (g ≡ session.game) × ArePoints session.game session.events
+-- at the table no point was taken back, and the budget is one
+abbrev pub IsReady : Table → Budget → Type 0
+IsReady table budget = IsSeated table × ArePoints table.session.game table.session.events
+    × IsBudget budget
 
--- and the judge is made for the game
-abbrev pub IsReady : Game → Recorded → Room → Type 0
-IsReady g session room = IsSession g session × IsMadeForGame room session.game
+-- the table stays, with a point more
+abbrev pub Grows : Table → Table → Type 0
+Grows old new = (new.game.now ≡ old.game.now) × (new.look ≡ old.look)
+    × (length old.session.events < length new.session.events)
 
 -- the game stays, and so does this
 abbrev pub Keeps : Recorded → Recorded → Type 0
 Keeps old new = (new.game ≡ old.game) × ArePoints new.game new.events
-
--- with one event more, or several
-abbrev pub Grows : Recorded → Recorded → Type 0
-Grows old new = Keeps old new × (length old.events < length new.events)
 
 -- whether the person has claimed the point of this number, where the program plays the side
 abbrev pub is_reply : Side → Game → List Event → ℕ → Bool

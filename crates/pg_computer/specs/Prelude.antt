@@ -3,8 +3,6 @@ pub use Rattle.pg_base.specs.Side.{is_same_side, other}
 pub use Rattle.pg_base.specs.Texts.{Bytes}
 pub use Rattle.pg_base.specs.declared.score.Score.{Score}
 pub use Rattle.pg_base.specs.declared.side.Side.{Side}
-pub use Rattle.pg_characters.specs.Names.{point_name}
-pub use Rattle.pg_characters.specs.declared.shown.Look.{Look}
 pub use Rattle.pg_files.specs.Views.{entry}
 pub use Rattle.pg_game.specs.Game.{IsPosition, after, bias_of, lowest_free, point_count, start}
 unfoldable pub use Rattle.pg_game.specs.Game.{free_points, is_over}
@@ -26,18 +24,17 @@ pub use Rattle.pg_messages.specs.declared.refusal.Refusal.{Refusal}
 pub use Rattle.pg_moves.specs.Best.{all_known, has_score, known_scores}
 pub use Rattle.pg_moves.specs.Trials.{AreTrials}
 pub use Rattle.pg_moves.specs.declared.trial.Trial.{Trial}
-pub use Rattle.pg_playing.specs.Courses.{Breaks, Goes}
-pub use Rattle.pg_playing.specs.Playing.{GivesPlay, GivesTable, Stores, after_log, names_of}
+pub use Rattle.pg_playing.specs.Courses.{Breaks}
+pub use Rattle.pg_playing.specs.Dialogue.{Allows, Rules}
+pub use Rattle.pg_playing.specs.Dialogue.{Steps as StepsBy}
+pub use Rattle.pg_playing.specs.Playing.{GivesPlay, GivesTable, PlaysLog, Stores, names_of}
 pub use Rattle.pg_playing.specs.Playing.{turned_to}
-pub use Rattle.pg_playing.specs.Screens.{answer_text, screen_text}
-pub use Rattle.pg_playing.specs.TableLog.{Closes, Leaves, Listens, Notes, Shows, Stage}
-pub use Rattle.pg_playing.specs.TableLog.{after_answer, after_reply, after_shown, ending_at}
-pub use Rattle.pg_playing.specs.TableLog.{ending_of}
-pub use Rattle.pg_playing.specs.TableLog.{note_of_lines, place}
-pub use Rattle.pg_playing.specs.Turns.{turned}
+pub use Rattle.pg_playing.specs.Screens.{answer_text}
+pub use Rattle.pg_playing.specs.Seated.{IsSeated}
+pub use Rattle.pg_playing.specs.TableLog.{Closes, IsClaimed, IsShown, Leaves, Listens, Notes, Shows}
+pub use Rattle.pg_playing.specs.TableLog.{Stalls, TableStage, place}
 pub use Rattle.pg_playing.specs.declared.dialogue.TheConstants.{MAX_HEARD}
-pub use Rattle.pg_playing.specs.declared.dialogue.Turn.{Turn}
-pub use Rattle.pg_playing.specs.declared.note.Note.{Note}
+pub use Rattle.pg_playing.specs.declared.table.Table.{Table}
 pub use Rattle.pg_record.specs.Replay.{IsRecord, position_after}
 unfoldable pub use Rattle.pg_record.specs.Replay.{standing}
 pub use Rattle.pg_record.specs.Session.{Recorded}
@@ -50,8 +47,10 @@ pub use Rattle.pg_sessions.specs.Review.{IsGameAt}
 pub use Rattle.pg_settle.specs.Budgets.{IsBudget}
 pub use Rattle.pg_settle.specs.declared.budget.Budget.{Budget}
 pub use Rattle.pg_settle.specs.declared.finding.Outcome.{Outcome}
+pub use Rattle.pg_characters.specs.Names.{point_name}
 pub use Rattle.pg_table.specs.Reply.{read_reply}
 pub use Rattle.pg_table.specs.declared.reply.Reply.{Reply}
+pub use Rattle.pg_characters.specs.declared.shown.Look.{Look}
 pub use Rattle.pg_talk.specs.Done.{Changes, Does, Done, End, Failed, Finished, Follows, Starved}
 pub use Rattle.pg_talk.specs.Done.{Stops, stop_end, talk}
 pub use Rattle.pg_talk.specs.Halts.{BothCauses}

@@ -5,7 +5,6 @@
 mod choice;
 mod choosing;
 mod copying;
-mod dialogue;
 mod moving;
 mod playing;
 mod points;

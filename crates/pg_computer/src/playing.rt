@@ -5,14 +5,12 @@ ghost use Rattle.pg_computer.specs.Prelude.{IsGameLacking, QuietsBy, Refused, Ru
 ghost use Rattle.pg_computer.specs.Prelude.{game_held, names_of};
 ghost use Rattle.pg_computer.specs.Versus.{PlaysVersus, Versus};
 
-use crate::dialogue::play_to_the_end;
-use crate::moving::Table;
+use crate::moving::Opponent;
 use pg_base::Side;
 use pg_characters::Look;
-use pg_game::{Game, Judge};
+use pg_game::Game;
 use pg_io::{Console, Files};
-use pg_playing::{store, turned_to};
-use pg_record::Session;
+use pg_playing::{open_table, play_to_the_end, store, turned_to};
 use pg_settle::{Budget, Finder};
 use pg_talk::{Halt, open_game};
 use std::alloc::Global;
@@ -53,16 +51,15 @@ fn play_game<F: Files, C: Console, S: Finder>(
         (C.told console.old) (C.told console.new) result }
     ensures gives { GivesTable result }
 {
-    let mut session = Session::open(alloc, game)?;
-    let mut judge = Judge::new(alloc, game)?;
-    let table = Table {
-        game,
+    let table = open_table(alloc, game, order.look)?;
+    let mut opponent = Opponent {
+        table,
         side: order.side,
-        look: order.look,
         budget: order.budget,
+        finder,
     };
-    play_to_the_end(alloc, table, &mut session, &mut judge, finder, console)?;
-    store(alloc, &session, order.record, files, console)
+    play_to_the_end(alloc, &mut opponent, console)?;
+    store(alloc, &opponent.table.session, order.record, files, console)
 }
 
 /// Plays a game against the person at the console: on its turns the program claims one legal point

@@ -1,76 +1,38 @@
--- What is done where a line asks for it.
-use Rattle.std.proofs.Common.{◌+◌, ◌-◌, List, [], ◌∷◌, ◌++◌, length, get_or, take, Option, Some}
+-- Where a line leads.
+use Rattle.std.proofs.Common.{◌≡◌, ◌∙◌, ◌⊎◌, ℕ, ◌+◌, ◌-◌, ◌<◌, ◌≤◌, List, [], ◌∷◌, ◌++◌, length}
+use Rattle.std.proofs.Common.{get_or, take, Option, Some, None, Result, Ok, Err, slice_get, refl}
+use Rattle.std.proofs.Common.{sym}
+use Rattle.std.proofs.Common.{ap, subst, inl, inr, arith}
 use Rattle.std.proofs.lemmas.Grind.{take_at_read}
 use Rattle.std.proofs.lemmas.List.{take_all}
 use Rattle.std.proofs.lemmas.List.Elements.{All-get_or}
 use Rattle.std.proofs.lemmas.Option.{slice_get_cases}
 use Rattle.std.specs.List.{All}
 use Rattle.std.specs.Prelude.{IfSome}
-use Rattle.std.proofs.Common.{◌≡◌, ◌∙◌, ℕ, ◌≤◌, ◌<◌, nat_lt, false, Result, Err, refl, sym, ap}
-use Rattle.std.proofs.Common.{subst, inl, inr, arith, ◌⊎◌, None, slice_get}
-use Rattle.pg_duel.proofs.Common.{Claim, ConsoleTold, Game, Goes, Look, Memory, Reply, Side}
-use Rattle.pg_duel.proofs.Common.{Sitting, Stop, Turn, nat_tests, point_count}
-use Rattle.pg_game.specs.declared.position.Illegal.TheVariants.{Range}
-use Rattle.pg_messages.specs.declared.message.ReplyFault.TheVariants as faults
+use Rattle.pg_duel.proofs.Common.{Claim, Game, IsAnswered, IsFit, Illegal, Side, Sitting, claimed}
+use Rattle.pg_duel.proofs.Common.{judged_move}
+use Rattle.pg_duel.proofs.Common.{reason_of, turned}
 use Rattle.pg_playing.specs.declared.note.Note.TheVariants.{Refused}
-use Rattle.pg_table.specs.declared.reply.Reply.TheVariants as reply
-use Rattle.pg_duel.specs.Prelude.{IsAfter}
-use Rattle.pg_duel.specs.DuelLog.{Acts, Follows, Notes, Shows, Stage, Steps}
+use Rattle.pg_duel.specs.DuelLog.{Claims, Notes}
 use Rattle.pg_duel.specs.Words.{last_of}
 
--- memory ran out, and nothing was printed
-pub starves : {T : Type 0} (look : Look) (g : Game) (c : Claim) (a b : ConsoleTold) (s : Sitting)
-    (heard : ℕ) (asked : Reply) (to : T → Stage)
-    → b.log ≡ a.log
-    → b.left ≡ a.left
-    → Acts look g c a b s heard asked (Err Memory) to
-starves look g c a b s heard asked to log left = inr (refl, log, left)
+-- a reply that was taken, or refused
+pub answered_claims : (g : Game) (c : Claim) (s t : Sitting) (heard v : ℕ)
+    (found : Result (Unit {0}) Illegal)
+    → IsFit g c s
+    → IsAnswered s v t found
+    → Claims g s heard v (turned t heard (claimed found))
+answered_claims g c s t heard v (Ok _) fits answered = inl (t, answered, refl)
+answered_claims g c s t heard v (Err why) fits answered = inr (inl (
+  why,
+  (λ i. judged_move (sym fits.on.same_game i) (sym fits.on.position i) v) ∙ answered.0,
+  (λ i. Notes (answered.1 i) heard (Refused (reason_of why))),
+))
 
--- work from the stage that the line leads to
-pub acts_from : {T : Type 0} (look : Look) (g : Game) (c : Claim) (a b : ConsoleTold) (s : Sitting)
-    (heard : ℕ) (asked : Reply) (r : Result T Stop) (to : T → Stage) (next : Stage)
-    → Follows g c s heard asked next
-    → Goes (Steps look g c) a b next r to
-    → Acts look g c a b s heard asked r to
-acts_from look g c a b s heard asked r to next follows goes = inl (next, follows, goes)
-
--- a number that is no point
-pub beyond_follows : (g : Game) (c : Claim) (s : Sitting) (heard v : ℕ)
-    → point_count g ≤ v
-    → Follows g c s heard (reply.Point v) (Notes s heard (Refused faults.NoPoint))
-beyond_follows g c s heard v great =
-    let test : nat_lt v (point_count g) ≡ false = grind (arith, nat_tests, great) in
-    inr (Range, rw test refl, refl)
-
--- the same of what a line asks for
-pub acts_asked : {T : Type 0} (look : Look) (g : Game) (c : Claim) (a b : ConsoleTold)
-    (s : Sitting) (heard : ℕ) (asked reply : Reply) (r : Result T Stop) (to : T → Stage)
-    → reply ≡ asked
-    → Acts look g c a b s heard asked r to
-    → Acts look g c a b s heard reply r to
-acts_asked look g c a b s heard asked reply r to is acts =
-    subst (λ (k : Reply). Acts look g c a b s heard k r to) (sym is) acts
-
--- `undo` with no reply, or with one
-module _ (look : Look) (g : Game) (c : Claim) (a b : ConsoleTold) (s : Sitting) (heard : ℕ)
-    (r : Result Turn Stop) (to : Turn → Stage) where
-  pub undoes_none : length s.replies < 1
-      → Goes (Steps look g c) a b (Notes s heard (Refused faults.NothingToTakeBack)) r to
-      → Acts look g c a b s heard reply.Undo r to
-  undoes_none none goes =
-      inl (Notes s heard (Refused faults.NothingToTakeBack), inl (empty s.replies none, refl), goes)
-    where
-      empty : (replies : List ℕ) → length replies < 1 → replies ≡ []
-      empty [] none = refl
-      empty (v ∷ others) none = absurd (omega (arith, none))
-
-  pub undoes_last : (t : Sitting) (others : List ℕ) (last : ℕ)
-      → s.replies ≡ others ++ last ∷ []
-      → IsAfter g c others t
-      → Goes (Steps look g c) a b (Shows t heard) r to
-      → Acts look g c a b s heard reply.Undo r to
-  undoes_last t others last is after goes =
-      inl (Shows t heard, inr (others, last, t, is, after, refl), goes)
+-- no reply
+pub no_replies : (replies : List ℕ) → length replies < 1 → replies ≡ []
+no_replies [] none = refl
+no_replies (v ∷ others) none = absurd (omega (arith, none))
 
 -- a list that isn't empty ends with its last element
 pub last_and_others : (xs : List ℕ)

@@ -7,8 +7,7 @@ use Rattle.pg_duel.specs.Prelude.{Refused, RejectsEvidence, Side, Sitting, Stand
 use Rattle.pg_duel.specs.Prelude.{chosen_claim, entry, evidence_held, game_held, turned_to}
 use Rattle.pg_files.specs.GameFile.{Entry as GameEntry}
 use Rattle.pg_talk.specs.Halts.{IsPlayHalt}
-use Rattle.pg_duel.specs.DuelLog.{Closes, Shows, Stage, Steps}
-use Rattle.pg_duel.specs.Seats.{Holds}
+use Rattle.pg_duel.specs.DuelLog.{Closes, Holds, Shows, Stage, Steps}
 use Rattle.pg_duel.specs.Sides.{side_by}
 
 -- ---- what was read
@@ -56,7 +55,7 @@ Refuses turn asked (Ok pair) refusal =
 -- ---- what is done
 
 -- the log is whole at this stage, these events were played, and the claim is held
-abbrev pub EndsWith : Game → Claim → Stage → List Event → Type 0
+abbrev pub EndsWith : Game → Claim → Stage Sitting → List Event → Type 0
 EndsWith g c stage events = (final : Sitting) × (stage ≡ Closes final) × (events ≡ final.events)
     × Holds g c final
 

@@ -3,8 +3,8 @@
 #![tactic(auto)]
 
 mod claims;
-mod dialogue;
 mod playing;
+mod rival;
 mod words;
 
 pub use playing::{Challenge, duel};

@@ -1,16 +1,15 @@
 //! A game from its file, played against the program by a certificate, and its record.
 ghost use Rattle.std.specs.Prelude.{◌≡◌, IfErr, IfOk, Some, option_copied, ⊤};
-ghost use Rattle.pg_duel.specs.Prelude.{BothCauses, Does, Evidence, HaltCauses, IsReadHalt};
+ghost use Rattle.pg_duel.specs.Prelude.{BothCauses, Does, Evidence, HaltCauses, IsFit, IsReadHalt};
 ghost use Rattle.pg_duel.specs.Prelude.{IsValid, IsWithinItsLimits, QuietsBy, ReadsOnly, Runs};
 ghost use Rattle.pg_duel.specs.Prelude.{StandsFor, StoresAt, chosen_claim, names_of, sitting_of};
 ghost use Rattle.pg_duel.specs.Dueling.{AreLacking, Duels, GivesDuel, OpensBoth, PlaysBy};
 ghost use Rattle.pg_duel.specs.Dueling.{PlaysSeat, Refuses, RefusesBy, RunsOn, both_held};
-ghost use Rattle.pg_duel.specs.Seats.{Sits};
 ghost use Rattle.pg_duel.specs.Sides.{side_by};
 ghost use Rattle.pg_playing.specs.Playing.{GivesTable};
 
 use crate::claims::side_by;
-use crate::dialogue::play_to_the_end;
+use crate::rival::Rival;
 use pg_base::Side;
 use pg_characters::Look;
 use pg_check::{CheckFault, Checked};
@@ -20,7 +19,7 @@ use pg_io::{Console, Files, Stop};
 use pg_messages::Refusal;
 use pg_opponent::Seat;
 use pg_player::OpenFault;
-use pg_playing::{store, turned_to};
+use pg_playing::{play_to_the_end, store, turned_to};
 use pg_talk::{Halt, open_game};
 use std::alloc::Global;
 
@@ -73,8 +72,8 @@ fn play_seat<'a, F: Files, C: Console>(
     requires game { checked.game.now ≡ seat.session.game }
     requires chosen { chosen_claim checked.game.now checked.cert.now seat.player.claim.side
         ≡ Some seat.player.claim }
-    requires sits { Sits seat.session.game seat.player.claim seat }
-    ensures played { Does (PlaysSeat challenge.entry.look seat.entry.session.game
+    requires fits { IsFit checked.game.now seat.player.claim (sitting_of seat) }
+    ensures played { Does (PlaysSeat challenge.entry.look checked.entry.game.now
         seat.entry.player.claim (sitting_of seat.entry) (option_copied challenge.entry.record))
         (F.told files.old) (F.told files.new) (C.told console.old) (C.told console.new) result }
     ensures files { StoresAt (names_of (option_copied challenge.entry.record))
@@ -83,9 +82,14 @@ fn play_seat<'a, F: Files, C: Console>(
         (C.told console.old) (C.told console.new) result }
     ensures gives { GivesTable result }
 {
-    let mut seat = seat;
-    play_to_the_end(alloc, checked, challenge.look, &mut seat, console)?;
-    store(alloc, &seat.session, challenge.record, files, console)
+    let look = challenge.look;
+    let mut rival = Rival {
+        checked,
+        look,
+        seat,
+    };
+    play_to_the_end(alloc, &mut rival, console)?;
+    store(alloc, &rival.seat.session, challenge.record, files, console)
 }
 
 /// Plays the side of a certificate that is valid.

@@ -13,6 +13,7 @@ pub use Rattle.pg_playing.specs.Prelude.{record_file, recorded_text, refusal_of,
 pub use Rattle.pg_playing.specs.Prelude.{standing_count, stop_end, talk, trimmed, with_left}
 unfoldable pub use Rattle.pg_playing.specs.Prelude.{is_over, outcome}
 pub use Rattle.pg_files.specs.Views.{entry}
+pub use Rattle.pg_io.specs.Console.{Grows}
 pub use Rattle.pg_game.proofs.Limits.{point_count-le}
 pub use Rattle.pg_record.proofs.Standing.{record-more}
 pub use Rattle.pg_sessions.proofs.Courses.{course_heard, course_nothing, course_said, course_then}

@@ -1,7 +1,7 @@
 pub mod Common
 pub mod Courses
 pub mod Stages
+pub mod Dialogues
 pub mod Logs
-pub mod Lines
 pub mod Runs
 pub mod Rows

@@ -1,21 +1,50 @@
 -- What follows from the rules of logs.
 use Rattle.std.proofs.Common.{◌≡◌, ℕ, ◌+◌, ◌<◌, ◌≤◌, nat_lt, if◌then◌else◌, Bool, true, false}
 use Rattle.std.proofs.Common.{List, [], ◌∷◌, ◌++◌, length, Result, Ok, Err}
-use Rattle.std.proofs.Common.{is_ok, refl, sym, ◌∙◌, ap, subst, arith}
+use Rattle.std.proofs.Common.{is_ok, refl, sym, ◌∙◌, ap, subst, inl, inr, arith}
 use Rattle.pg_playing.proofs.Common.{Back, Ended, Entry, Event, Game, Heard, Illegal, IsRecord}
 use Rattle.pg_playing.proofs.Common.{LeadsBy, Look, MAX_EVENTS, Play, Position, Reply, Said}
 use Rattle.pg_playing.proofs.Common.{Skipped}
 use Rattle.pg_playing.proofs.Common.{judged_move, length_push, ltb-true, read_reply, record-more}
 use Rattle.pg_playing.proofs.Common.{replay, trimmed, is_over}
 use Rattle.pg_table.specs.declared.reply.Reply.TheVariants as reply
-use Rattle.pg_playing.specs.TableLog.{Closes, IsLogTo, Leaves, Listens, Notes, Shows, Stage}
-use Rattle.pg_playing.specs.TableLog.{Steps, after_answer, after_claim, after_reply, after_shown}
-use Rattle.pg_playing.specs.TableLog.{after_undo, events_at, place}
+use Rattle.pg_messages.specs.declared.message.ReplyFault.TheVariants.{NoNumber, NoPoint}
+use Rattle.pg_playing.specs.Dialogue.{Follows, after_answer, after_shown, note_of_lines}
+use Rattle.pg_playing.specs.TableLog.{Closes, IsLogTo, Leaves, Listens, Notes, Shows, Stalls}
+use Rattle.pg_playing.specs.TableLog.{Steps, TableStage, after_claim, after_undo, events_at, place}
+use Rattle.pg_playing.specs.TableLog.{table_rules}
 use Rattle.pg_playing.specs.declared.dialogue.TheConstants.{MAX_HEARD}
+use Rattle.pg_playing.specs.declared.note.Note.TheVariants as notes
+use Rattle.pg_playing.proofs.Stages.{beyond_claim}
 
 -- ---- a log leads to one stage
 
-next_same : (look : Look) (g : Game) (s m n : Stage) (entry : Entry)
+-- after a line
+abbrev after_reply : Game → List Event → ℕ → Reply → TableStage
+after_reply g events heard (reply.Point v) =
+    after_claim events heard v (judged_move g (place g events) v)
+after_reply g events heard reply.Undo = after_undo g events heard
+after_reply g events heard (reply.Lines through) = Notes events heard (note_of_lines g through)
+after_reply g events heard reply.Help = Notes events heard notes.Help
+after_reply g events heard reply.Quit = Closes events
+after_reply g events heard reply.NoCell = Notes events heard (notes.Refused NoPoint)
+after_reply g events heard reply.Unclear = Notes events heard (notes.Refused NoNumber)
+
+follows_reply : (look : Look) (g : Game) (events : List Event) (heard : ℕ) (asked : Reply)
+    (next : TableStage)
+    → Follows (table_rules look g) events heard asked next
+    → next ≡ after_reply g events heard asked
+follows_reply look g events heard (reply.Point v) next (inl is) = is
+follows_reply look g events heard (reply.Point v) next (inr (great, is)) =
+    is ∙ beyond_claim g events heard v great
+follows_reply look g events heard reply.Undo next is = is
+follows_reply look g events heard (reply.Lines through) next is = is
+follows_reply look g events heard reply.Help next is = is
+follows_reply look g events heard reply.Quit next is = is
+follows_reply look g events heard reply.NoCell next is = is
+follows_reply look g events heard reply.Unclear next is = is
+
+next_same : (look : Look) (g : Game) (s m n : TableStage) (entry : Entry)
     → Steps look g s entry m
     → Steps look g s entry n
     → m ≡ n
@@ -24,7 +53,10 @@ next_same look g (Shows events heard) m n (Heard line) a b = absurd a
 next_same look g (Shows events heard) m n (Skipped line) a b = absurd a
 next_same look g (Shows events heard) m n Ended a b = absurd a
 next_same look g (Listens events heard) m n (Said text) a b = absurd a
-next_same look g (Listens events heard) m n (Heard line) a b = a ∙ sym b
+next_same look g (Listens events heard) m n (Heard line) a b =
+    let asked = read_reply g.field (trimmed line) in
+    follows_reply look g events (heard + 1) asked m a
+    ∙ sym (follows_reply look g events (heard + 1) asked n b)
 next_same look g (Listens events heard) m n (Skipped line) a b = a ∙ sym b
 next_same look g (Listens events heard) m n Ended a b = a ∙ sym b
 next_same look g (Notes events heard note) m n (Said text) a b = a.1 ∙ sym b.1
@@ -39,15 +71,19 @@ next_same look g (Closes events) m n (Said text) a b = absurd a
 next_same look g (Closes events) m n (Heard line) a b = absurd a
 next_same look g (Closes events) m n (Skipped line) a b = absurd a
 next_same look g (Closes events) m n Ended a b = absurd a
+next_same look g (Stalls events) m n (Said text) a b = absurd a
+next_same look g (Stalls events) m n (Heard line) a b = absurd a
+next_same look g (Stalls events) m n (Skipped line) a b = absurd a
+next_same look g (Stalls events) m n Ended a b = absurd a
 
-pub leads_same : (look : Look) (g : Game) (s t u : Stage) (entries : List Entry)
+pub leads_same : (look : Look) (g : Game) (s t u : TableStage) (entries : List Entry)
     → LeadsBy (Steps look g) s entries t
     → LeadsBy (Steps look g) s entries u
     → t ≡ u
 leads_same look g s t u [] a b = a ∙ sym b
 leads_same look g s t u (entry ∷ entries) (m, step, rest) (n, other, others) =
     leads_same look g n t u entries
-    (subst (λ (k : Stage). LeadsBy (Steps look g) k entries t)
+    (subst (λ (k : TableStage). LeadsBy (Steps look g) k entries t)
     (next_same look g s m n entry step other) rest) others
 
 -- ---- its events are a record
@@ -57,19 +93,21 @@ pub record IsWithin (g : Game) (events : List Event) (heard : ℕ) : Type 0 wher
   pub allowed : IsRecord g events
   pub few : length events ≤ heard
 
-abbrev pub IsSound : Game → Stage → Type 0
+abbrev pub IsSound : Game → TableStage → Type 0
 IsSound g (Shows events heard) = IsWithin g events heard × (heard ≤ MAX_HEARD)
 IsSound g (Listens events heard) = IsWithin g events heard × (heard < MAX_HEARD)
 IsSound g (Notes events heard note) = IsWithin g events heard × (heard ≤ MAX_HEARD)
 IsSound g (Leaves events) = IsRecord g events
 IsSound g (Closes events) = IsRecord g events
+IsSound g (Stalls events) = IsRecord g events
 
-sound_record : (g : Game) (s : Stage) → IsSound g s → IsRecord g (events_at s)
+sound_record : (g : Game) (s : TableStage) → IsSound g s → IsRecord g (events_at s)
 sound_record g (Shows events heard) sound = sound.0.allowed
 sound_record g (Listens events heard) sound = sound.0.allowed
 sound_record g (Notes events heard note) sound = sound.0.allowed
 sound_record g (Leaves events) sound = sound
 sound_record g (Closes events) sound = sound
+sound_record g (Stalls events) sound = sound
 
 -- a further line
 more_lines : (g : Game) (events : List Event) (heard : ℕ)
@@ -138,32 +176,34 @@ shown_sound : (g : Game) (events : List Event) (heard : ℕ) (over : Bool)
 shown_sound g events heard true within = within.allowed
 shown_sound g events heard false within = answer_sound g events heard within
 
-step_sound : (look : Look) (g : Game) (s m : Stage) (entry : Entry)
+step_sound : (look : Look) (g : Game) (s m : TableStage) (entry : Entry)
     → IsSound g s
     → Steps look g s entry m
     → IsSound g m
 step_sound look g (Shows events heard) m (Said text) sound step =
-    subst (λ (k : Stage). IsSound g k) (sym step.1)
+    subst (λ (k : TableStage). IsSound g k) (sym step.1)
     (shown_sound g events heard (is_over g (place g events)) sound.0)
 step_sound look g (Shows events heard) m (Heard line) sound step = absurd step
 step_sound look g (Shows events heard) m (Skipped line) sound step = absurd step
 step_sound look g (Shows events heard) m Ended sound step = absurd step
 step_sound look g (Listens events heard) m (Said text) sound step = absurd step
 step_sound look g (Listens events heard) m (Heard line) sound step =
-    subst (λ (k : Stage). IsSound g k) (sym step)
-    (reply_sound g events heard sound.0 sound.1 (read_reply g.field (trimmed line)))
+    let asked = read_reply g.field (trimmed line) in
+    subst (λ (k : TableStage). IsSound g k)
+    (sym (follows_reply look g events (heard + 1) asked m step))
+    (reply_sound g events heard sound.0 sound.1 asked)
 step_sound look g (Listens events heard) m (Skipped line) sound step =
-    subst (λ (k : Stage). IsSound g k) (sym step)
+    subst (λ (k : TableStage). IsSound g k) (sym step)
     (more_lines g events heard sound.0, after g events heard sound.0 sound.1)
 step_sound look g (Listens events heard) m Ended sound step =
-    subst (λ (k : Stage). IsSound g k) (sym step) sound.0.allowed
+    subst (λ (k : TableStage). IsSound g k) (sym step) sound.0.allowed
 step_sound look g (Notes events heard note) m (Said text) sound step =
-    subst (λ (k : Stage). IsSound g k) (sym step.1) (answer_sound g events heard sound.0)
+    subst (λ (k : TableStage). IsSound g k) (sym step.1) (answer_sound g events heard sound.0)
 step_sound look g (Notes events heard note) m (Heard line) sound step = absurd step
 step_sound look g (Notes events heard note) m (Skipped line) sound step = absurd step
 step_sound look g (Notes events heard note) m Ended sound step = absurd step
 step_sound look g (Leaves events) m (Said text) sound step =
-    subst (λ (k : Stage). IsSound g k) (sym step.1) sound
+    subst (λ (k : TableStage). IsSound g k) (sym step.1) sound
 step_sound look g (Leaves events) m (Heard line) sound step = absurd step
 step_sound look g (Leaves events) m (Skipped line) sound step = absurd step
 step_sound look g (Leaves events) m Ended sound step = absurd step
@@ -171,12 +211,16 @@ step_sound look g (Closes events) m (Said text) sound step = absurd step
 step_sound look g (Closes events) m (Heard line) sound step = absurd step
 step_sound look g (Closes events) m (Skipped line) sound step = absurd step
 step_sound look g (Closes events) m Ended sound step = absurd step
+step_sound look g (Stalls events) m (Said text) sound step = absurd step
+step_sound look g (Stalls events) m (Heard line) sound step = absurd step
+step_sound look g (Stalls events) m (Skipped line) sound step = absurd step
+step_sound look g (Stalls events) m Ended sound step = absurd step
 
-leads_sound : (look : Look) (g : Game) (s t : Stage) (entries : List Entry)
+leads_sound : (look : Look) (g : Game) (s t : TableStage) (entries : List Entry)
     → IsSound g s
     → LeadsBy (Steps look g) s entries t
     → IsSound g t
-leads_sound look g s t [] sound same = subst (λ (k : Stage). IsSound g k) (sym same) sound
+leads_sound look g s t [] sound same = subst (λ (k : TableStage). IsSound g k) (sym same) sound
 leads_sound look g s t (entry ∷ entries) sound (m, step, rest) =
     leads_sound look g m t entries (step_sound look g s m entry sound step) rest
 
@@ -186,7 +230,7 @@ begun_sound g = (
   omega arith,
 )
 
-pub log_records : (look : Look) (g : Game) (entries : List Entry) (stage : Stage)
+pub log_records : (look : Look) (g : Game) (entries : List Entry) (stage : TableStage)
     → IsLogTo look g entries stage
     → IsRecord g (events_at stage)
 log_records look g entries stage log =

@@ -2,7 +2,6 @@
 use Rattle.std.proofs.Common.{◌≡◌, ◌∙◌, ℕ, ◌<◌, ◌≤◌, ◌^◌, ◌++◌, ap, arith, refl, subst}
 use Rattle.std.specs.Prelude.{codes, Option, Some, None}
 use Rattle.std.proofs.Common.{append_assoc}
-use Rattle.std.proofs.lemmas.List.{append-nil}
 use Rattle.pg_characters.proofs.Fit.{Whole, rows_keep, whole_and, whole_fits, whole_rows, wide_fits}
 use Rattle.pg_table.proofs.PrintedBoards.{whole_board}
 use Rattle.pg_table.proofs.PrintedLines.{whole_goals, whole_help, whole_open, whole_result}
@@ -11,7 +10,7 @@ use Rattle.pg_playing.proofs.Common.{Bytes, FitsIn, Game, Position, ReplyFault, 
 use Rattle.pg_playing.proofs.Common.{board_text, goals_text, result_text, turn_text}
 use Rattle.pg_messages.specs.declared.message.ReplyFault.TheVariants as faults
 use Rattle.pg_playing.specs.Notes.{note_text, why_text}
-use Rattle.pg_playing.specs.Screens.{answer_text, ending_text, shown_text}
+use Rattle.pg_playing.specs.Screens.{answer_text, shown_text}
 use Rattle.pg_playing.specs.declared.note.Note.{Note}
 use Rattle.pg_playing.specs.declared.note.Note.TheVariants as notes
 

@@ -4,15 +4,14 @@ use Rattle.std.proofs.Common.{refl, sym, ◌∙◌, ap, subst, inl, inr, IfOk, a
 use Rattle.std.specs.Prelude.{IfErr, IfSome, ⊤}
 use Rattle.pg_playing.proofs.Common.{Bytes, Changes, ConsoleTold, Course, DONE, Does, Done, End}
 use Rattle.pg_playing.proofs.Common.{Entry, Event, Failed, FilesTold, Finished, Follows, Game}
-use Rattle.pg_playing.proofs.Common.{Grows-then, Halt, Holding, IsWriteHalt, LeadsBy, Look, Memory}
+use Rattle.pg_playing.proofs.Common.{Grows-then, Halt, Holding, IsWriteHalt, LeadsBy, Memory}
 use Rattle.pg_playing.proofs.Common.{OpensGame, QuietsBy, Read, Refusal, Refused, Runs, Starved}
 use Rattle.pg_playing.proofs.Common.{Stop, Stopped, Stops, Write, entry, game_held, hears_then}
 use Rattle.pg_playing.proofs.Common.{kept, not_opened, opened, runs_halt, silent, stop_end, talk}
 use Rattle.pg_files.specs.GameFile.{Entry as GameEntry}
 use Rattle.pg_playing.specs.Courses.{Breaks}
-use Rattle.pg_playing.specs.Playing.{Closed, GivesPlay, GivesTable, IsCutShort, Plays, PlaysGame}
-use Rattle.pg_playing.specs.Playing.{PlaysLog, Stores, after_log, turned_to}
-use Rattle.pg_playing.proofs.Common.{Side}
+use Rattle.pg_playing.specs.Playing.{Closed, GivesPlay, GivesTable, IsCutShort, PlaysLog, Stores}
+use Rattle.pg_playing.specs.Playing.{after_log}
 
 -- ---- a game that has ended or was left, and then its record
 
@@ -157,52 +156,42 @@ module _ {S : Type 0} (Steps : S → Entry → S → Type 0) (first : S)
 abbrev pub Against : Bytes → Holding → Refusal → Type 0
 Against game held refusal = game_held (held game) ≡ Err (Refused refusal)
 
-abbrev pub PlaysHeld : Look
-    → Option Side
-    → Bytes
-    → Option Bytes
-    → Holding
-    → Done
-    → End
-    → Type 0
-PlaysHeld look turn game path held = Plays look turn (game_held (held game)) path
-
-module _ (look : Look) (turn : Option Side) (game : Bytes) (path : Option Bytes)
-    (files mid : FilesTold) (same : mid.held ≡ files.held) where
+-- what is done with a game is what is done with what was read
+module _ (Acts : Game → Done → End → Type 0) (Held : Result GameEntry Halt → Done → End → Type 0)
+    (game : Bytes) (files mid : FilesTold) (same : mid.held ≡ files.held) where
   -- the game wasn't read
   pub plays_halted : (console : ConsoleTold) (halt : Halt)
       → OpensGame files.held game (Err halt)
-      → Runs (Against game) (PlaysHeld look turn game path) files mid console console (Err halt)
+      → Runs (Against game) (λ held. Held (game_held (held game))) files mid console console
+      (Err halt)
   plays_halted console halt opens = runs_halt files mid same (Against game)
-      (PlaysHeld look turn game path) console halt (λ held refusal is this. not_opened entry
+      (λ held. Held (game_held (held game))) console halt (λ held refusal is this. not_opened entry
       game_held files.held game held is halt refusal this opens)
 
   -- the game that was read was played
   pub plays_runs : (g : Game) (files' : FilesTold) (before after : ConsoleTold) (r : Result ℕ Halt)
+      → ((done : Done) (end : End) → Acts g done end → Held (Ok (entry g)) done end)
       → OpensGame files.held game (Ok g)
-      → Does (PlaysGame look (turned_to g turn) path) mid files' before after r
-      → Runs (Against game) (PlaysHeld look turn game path) files files' before after r
-  plays_runs g files' before after r opens does = go files.held refl r
+      → Does (Acts g) mid files' before after r
+      → Runs (Against game) (λ held. Held (game_held (held game))) files files' before after r
+  plays_runs g files' before after r plays opens does = go files.held refl r
       (subst (λ (h : Option Holding). IfSome h
-      (λ held. Follows (λ _. ⊥) (PlaysGame look (turned_to g turn) path) held files' before after
-      r)) same does)
+      (λ held. Follows (λ _. ⊥) (Acts g) held files' before after r)) same does)
     where
       acts : (held : Holding)
           → files.held ≡ Some held
-          → (done : Done) (end : End) → PlaysGame look (turned_to g turn) path done end
-          → PlaysHeld look turn game path held done end
-      acts held is done end plays =
-          subst (λ (read : Result GameEntry Halt). Plays look turn read path done end)
-          (sym (opened entry game_held files.held game held is g opens)) (g, refl, plays)
+          → (done : Done) (end : End) → Acts g done end
+          → Held (game_held (held game)) done end
+      acts held is done end act =
+          subst (λ (read : Result GameEntry Halt). Held read done end)
+          (sym (opened entry game_held files.held game held is g opens)) (plays done end act)
 
       go : (h : Option Holding)
           → files.held ≡ h
           → (r : Result ℕ Halt)
-          → IfSome h
-          (λ held. Follows (λ _. ⊥) (PlaysGame look (turned_to g turn) path) held files' before
-          after r)
-          → IfSome h (λ held. Follows (Against game held)
-          (PlaysHeld look turn game path held) held files' before after r)
+          → IfSome h (λ held. Follows (λ _. ⊥) (Acts g) held files' before after r)
+          → IfSome h (λ held. Follows (Against game held) (Held (game_held (held game))) held
+          files' before after r)
       go None is r does = tt
       go (Some held) is (Ok status) (done, act, changes) =
           (done, acts held is done (Finished status) act, changes)

@@ -29,3 +29,15 @@ abbrev pub Goes : {S T : Type 0}
     → Type 0
 Goes Steps before now s (Ok x) to = Course Steps before now s (to x)
 Goes Steps before now s (Err stop) to = Breaks Steps before now s stop
+
+-- work from some stage of those to which a line leads
+abbrev pub GoesFrom : {S T : Type 0}
+    → (S → Entry → S → Type 0)
+    → ConsoleTold
+    → ConsoleTold
+    → (S → Type 0)
+    → Result T Stop
+    → (T → S)
+    → Type 0
+GoesFrom {S} Steps before now Leads result to =
+    (next : S) × Leads next × Goes Steps before now next result to

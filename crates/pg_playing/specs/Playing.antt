@@ -7,7 +7,7 @@ use Rattle.pg_playing.specs.Prelude.{Refused}
 use Rattle.pg_playing.specs.Prelude.{Starved, Stopped, IsNothing, record_file, recorded_text}
 use Rattle.pg_playing.specs.Prelude.{Side, standing_count}
 use Rattle.pg_files.specs.GameFile.{Entry as GameEntry}
-use Rattle.pg_playing.specs.TableLog.{Closes, Shows, Stage, Steps}
+use Rattle.pg_playing.specs.TableLog.{Closes, Shows, Steps, TableStage}
 
 -- the paths under which something is stored
 abbrev pub names_of : Option Bytes → List Bytes
@@ -67,7 +67,7 @@ PlaysLog Steps first IsWhole g path done Starved =
     IsCutShort Steps first done ⊎ Closed Steps first IsWhole g path done Starved
 
 -- the log of a game at a table is whole at this stage, and these events were played
-abbrev pub EndsWith : Stage → List Event → Type 0
+abbrev pub EndsWith : TableStage → List Event → Type 0
 EndsWith stage events = stage ≡ Closes events
 
 -- the same of a game at a table, from the game's position

@@ -2,10 +2,6 @@
 pub use Rattle.pg_base.specs.Texts.{Bytes}
 pub use Rattle.pg_base.specs.declared.score.Score.{Score}
 pub use Rattle.pg_base.specs.declared.side.Side.{Side}
-pub use Rattle.pg_characters.specs.Columns.{FitsIn}
-pub use Rattle.pg_characters.specs.declared.shown.Look.{Look}
-pub use Rattle.pg_characters.specs.declared.shown.Shown.{Shown}
-pub use Rattle.pg_characters.specs.declared.shown.TheConstants.{COLUMNS}
 pub use Rattle.pg_game.specs.Game.{point_count}
 unfoldable pub use Rattle.pg_game.specs.Game.{is_over, outcome}
 pub use Rattle.pg_game.specs.Judge.{IsMadeForGame, judged_move}
@@ -32,10 +28,14 @@ pub use Rattle.pg_sessions.specs.Course.{Course, LeadsBy}
 pub use Rattle.pg_sessions.specs.Recording.{record_file}
 pub use Rattle.pg_sessions.specs.SessionLog.{reason_of, standing_count}
 pub use Rattle.pg_table.specs.Board.{board_text}
+pub use Rattle.pg_characters.specs.Columns.{FitsIn}
 pub use Rattle.pg_table.specs.OpenLines.{lines_text}
 pub use Rattle.pg_table.specs.Reply.{read_reply}
 pub use Rattle.pg_table.specs.Words.{goals_text, help_text, result_text, turn_text}
 pub use Rattle.pg_table.specs.declared.reply.Reply.{Reply}
+pub use Rattle.pg_characters.specs.declared.shown.Look.{Look}
+pub use Rattle.pg_characters.specs.declared.shown.Shown.{Shown}
+pub use Rattle.pg_characters.specs.declared.shown.TheConstants.{COLUMNS}
 pub use Rattle.pg_talk.specs.Done.{Changes, Does, Done, End, Failed, Finished, Follows, IsNothing}
 pub use Rattle.pg_talk.specs.Done.{Starved, Stops, stop_end, talk}
 pub use Rattle.pg_talk.specs.Halts.{BothCauses, IsGameHalt, IsWriteHalt}

@@ -4,12 +4,12 @@ ghost use Rattle.std.specs.Prelude.{◌≡◌, ◌<◌, ◌≤◌, ◌^◌, List
 ghost use Rattle.pg_playing.specs.Prelude.{COLUMNS, Entry, FitsIn, Game, IsRecord, Look, Position};
 ghost use Rattle.pg_playing.specs.Prelude.{Score, Shown};
 ghost use Rattle.pg_playing.specs.Screens.{answer_text, shown_text};
-ghost use Rattle.pg_playing.specs.TableLog.{IsLogTo, Stage, events_at};
+ghost use Rattle.pg_playing.specs.TableLog.{IsLogTo, TableStage, events_at};
 ghost use Rattle.pg_playing.specs.declared.note.Note.{Note};
 
 /// The log alone determines the stage that it has reached, and so its events.
 pub fn logs_determine_their_stage()
-    ensures { (look : Look) (g : Game) (entries : List Entry) (s t : Stage)
+    ensures { (look : Look) (g : Game) (entries : List Entry) (s t : TableStage)
         → IsLogTo look g entries s → IsLogTo look g entries t → s ≡ t }
 {}
 
@@ -17,7 +17,7 @@ pub fn logs_determine_their_stage()
 /// that wasn't over, and no more was taken back than stood. So the points that stand are a legal
 /// play (`pg_record`).
 pub fn logged_games_are_records()
-    ensures { (look : Look) (g : Game) (entries : List Entry) (stage : Stage)
+    ensures { (look : Look) (g : Game) (entries : List Entry) (stage : TableStage)
         → IsLogTo look g entries stage → IsRecord g (events_at stage) }
 {}
 

@@ -6,10 +6,11 @@ ghost use Rattle.pg_playing.specs.Prelude.{game_held, record_file, recorded_text
 ghost use Rattle.pg_playing.specs.Playing.{GivesPlay, GivesTable, Plays, PlaysGame, Stores};
 ghost use Rattle.pg_playing.specs.Playing.{names_of, turned_to};
 
-use crate::dialogue::{Table, play_at_table};
+use crate::dialogue::play_to_the_end;
+use crate::table::open_table;
 use pg_base::Side;
 use pg_characters::Look;
-use pg_game::{Game, Judge};
+use pg_game::Game;
 use pg_io::{Console, Files};
 use pg_messages::{DONE, Message};
 use pg_record::{Session, print_record};
@@ -105,17 +106,9 @@ fn play_game<F: Files, C: Console>(
         (C.told console.old) (C.told console.new) result }
     ensures gives { GivesTable result }
 {
-    let mut session = Session::open(alloc, game)?;
-    let mut judge = Judge::new(alloc, game)?;
-    let look = order.look;
-    play_at_table(
-        alloc,
-        Table { game, look },
-        &mut session,
-        &mut judge,
-        console,
-    )?;
-    store(alloc, &session, order.record, files, console)
+    let mut table = open_table(alloc, game, order.look)?;
+    play_to_the_end(alloc, &mut table, console)?;
+    store(alloc, &table.session, order.record, files, console)
 }
 
 /// Plays a game at a table: shows its board, hears which points are claimed and taken back, and

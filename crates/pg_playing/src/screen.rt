@@ -70,7 +70,12 @@ pub fn shown_text(
 
 /// Returns the text that answers a line that changes nothing, and says whose turn it is. An error
 /// means that memory ran out.
-pub fn answer(alloc: Global, game: &Game, position: &Position, note: Note) -> Result<String, Memory>
+pub(crate) fn answer(
+    alloc: Global,
+    game: &Game,
+    position: &Position,
+    note: Note,
+) -> Result<String, Memory>
     ensures { IfOk result (λ text. string_bytes text
         ≡ answer_text game.now position.now note) }
 {

@@ -1,6 +1,6 @@
 use Rattle.std.proofs.Common.{◌≡◌, Err, None, Some, ap, inr, refl, subst, sym}
 use Rattle.std.specs.Prelude.{option_copied}
-use Rattle.pg_duel.proofs.Common.{Game, IsFit, Side, chosen_claim, sitting_of}
+use Rattle.pg_duel.proofs.Common.{Side, chosen_claim, sitting_of}
 use Rattle.pg_player.specs.declared.player.OpenFault.{OpenFault}
 use Rattle.pg_duel.specs.Dueling.{PlaysBy, PlaysSeat, RefusesBy}
 use Rattle.pg_duel.proofs.Runs.{refuses_now, runs_more, starves_now, table_gives}
@@ -40,13 +40,6 @@ play_seat-requires-clause-chosen g c =
     subst (λ (s : Side). chosen_claim c.args.checked.game.now c.args.checked.cert.now s
     ≡ Some c.in-Ok.seat.player.claim) (sym c.in-Ok.ensures.side) c.in-Ok.ensures.chosen
 
-pub play_seat-requires-clause-sits : goal.play_seat-requires-clause-sits
-play_seat-requires-clause-sits g c = (
-  subst (λ (h : Game). IsFit h c.in-Ok.seat.player.claim (sitting_of c.in-Ok.seat))
-      (sym c.in-Ok.ensures.game) c.in-Ok.ensures.fits,
-  refl,
-)
-
 pub returns-in-Ok-clause-played : goal.returns-in-Ok-clause-played
 returns-in-Ok-clause-played g c e stands is =
     let game = c.args.checked.game.now in
@@ -59,7 +52,7 @@ returns-in-Ok-clause-played g c e stands is =
     let s = sitting_of seat in
     let chosen = subst (λ (side : Side). chosen_claim game cert side ≡ Some claim) is
     c.in-Ok.ensures.chosen in
-    runs_more (λ _. ⊥) (RefusesBy asked game e) (PlaysSeat look seat.session.game claim s path)
+    runs_more (λ _. ⊥) (RefusesBy asked game e) (PlaysSeat look game claim s path)
     (PlaysBy look asked game e path) (λ refusal none. absurd none)
     (λ done end acts. (
       cert,
@@ -69,7 +62,7 @@ returns-in-Ok-clause-played g c e stands is =
       c.requires.valid,
       chosen,
       c.in-Ok.ensures.begins,
-      subst (λ (h : Game). PlaysSeat look h claim s path done end) c.in-Ok.ensures.game acts,
+      acts,
     ))
     (g.F.Files.told c.args.files.now) (g.F.Files.told c.play_seat.new.files)
     (g.C.Console.told c.args.console.now) (g.C.Console.told c.play_seat.new.console)

@@ -1,49 +1,67 @@
-use Rattle.std.proofs.Common.{◌∙◌, Bool, ap, is_some, refl, subst, sym}
-use Rattle.pg_game.specs.Fit.{AreBelow}
-use Rattle.pg_playing.proofs.Common.{Game, IsMadeForGame, Memory, err_from_is_err_and}
-use Rattle.pg_playing.proofs.Common.{course_said, point_count}
-use Rattle.pg_playing.specs.Screens.{shown_text}
-use Rattle.pg_playing.specs.TableLog.{Shows, Steps, after_shown, ending_at, place}
-use Rattle.pg_playing.proofs.Courses.{breaks_here}
-use Rattle.pg_playing.proofs.Stages.{has_ending}
+use Rattle.std.proofs.Common.{◌∙◌, arith, refl}
+use Rattle.std.specs.Prelude.{string_bytes}
+use Rattle.pg_playing.proofs.Common.{Memory, err_from_is_err_and}
+use Rattle.pg_playing.specs.Dialogue.{Closes, Shows, Steps, after_answer}
+use Rattle.pg_playing.proofs.Courses.{breaks_here, breaks_then}
+use Rattle.pg_playing.proofs.Dialogues.{allows_then, says_then}
 use Rattle.pg_playing.proofs.dialogue.show.Goals as goal
 
-pub over-ending-requires-clause-made : goal.over-ending-requires-clause-made
-over-ending-requires-clause-made g c = subst (λ (k : Game). IsMadeForGame c.args.judge.now k)
-    (sym c.requires.game) c.requires.judge
-
-pub over-ending-requires-clause-range : goal.over-ending-requires-clause-range
-over-ending-requires-clause-range g c =
-    subst (λ (k : Game). AreBelow c.position.result.x (point_count k))
-    (sym c.requires.game) c.position.ensures.fits.x_range
-
-pub returns-in_err-text-clause-course : goal.returns-in_err-text-clause-course
-returns-in_err-text-clause-course g c =
+pub returns-in_err-telling-clause-course : goal.returns-in_err-telling-clause-course
+returns-in_err-telling-clause-course g c =
     let p = err_from_is_err_and c.from_residual.result c.from_residual.ensures.1 in
-    let session = c.args.session.now in
+    let rules = Steps (g.B.Bout.rules c.args.bout.now) in
+    let here = g.B.Bout.at c.loop-telling.bout in
     λ heard. rw (p.1, p.2)
-    (breaks_here (Steps c.args.table.look session.game) _ _
-    (Shows session.events heard) Memory refl refl)
+    (breaks_then rules _ _ _ (Shows (g.B.Bout.at c.args.bout.now) heard) (Shows here heard) Memory
+    (c.loop-telling.invariant.course heard)
+    (breaks_here rules _ _ (Shows here heard) Memory refl refl))
 
 pub returns-in_err-say_text-clause-course : goal.returns-in_err-say_text-clause-course
 returns-in_err-say_text-clause-course g c =
     let p = err_from_is_err_and c.from_residual-in_err-say_text.result
     c.from_residual-in_err-say_text.ensures.1 in
-    let session = c.args.session.now in
+    let rules = Steps (g.B.Bout.rules c.args.bout.now) in
+    let here = g.B.Bout.at c.loop-telling.bout in
     λ heard. rw (p.1, p.2)
-    (breaks_here (Steps c.args.table.look session.game) _ _
-    (Shows session.events heard) _ c.in_err-say_text.ensures.said c.in_err-say_text.ensures.left)
+    (breaks_then rules _ _ _ (Shows (g.B.Bout.at c.args.bout.now) heard) (Shows here heard) _
+    (c.loop-telling.invariant.course heard)
+    (breaks_here rules _ _ (Shows here heard) _
+    c.in_err-say_text.ensures.said c.in_err-say_text.ensures.left))
 
-pub returns-clause-course : goal.returns-clause-course
-returns-clause-course g c =
-    let session = c.args.session.now in
-    let ending = c.over-ending.ensures.result
-    ∙ (λ i. ending_at (c.requires.game i) (c.position.ensures.exact i)) in
-    let text = c.as_str.ensures.value ∙ c.in_ok-text.ensures
-    ∙ (λ i. shown_text (c.requires.game i) (c.shown_of-shown.ensures i) (ending i)) in
-    let over = c.is_some.ensures ∙ ap is_some ending
-    ∙ has_ending session.game (place session.game session.events) in
-    λ heard. course_said (Steps c.args.table.look session.game) _ _ c.as_str.result.now
-    (Shows session.events heard) (after_shown c.is_some.result session.events heard)
-    c.in_ok-say_text.ensures.said c.in_ok-say_text.ensures.left
-    (text, ap (λ (b : Bool). after_shown b session.events heard) over)
+pub returns-in-Line-clause-course : goal.returns-in-Line-clause-course
+returns-in-Line-clause-course g c =
+    let prints = rw c.in-Line.is at c.in_ok-telling.ensures.prints in
+    λ heard. says_then (g.B.Bout.rules c.args.bout.now) (g.B.Bout.rules c.loop-telling.bout) _ _ _
+    (g.B.Bout.at c.args.bout.now) (g.B.Bout.at c.loop-telling.bout) heard c.as_str.result.now
+    (string_bytes c.in_ok-telling.telling.text) (after_answer (g.B.Bout.at c.tell.new.self) heard)
+    c.loop-telling.invariant.allows (c.loop-telling.invariant.course heard)
+    c.in_ok-say_text.ensures.said c.in_ok-say_text.ensures.left c.as_str.ensures.value
+    (prints heard)
+
+pub returns-in-End-clause-course : goal.returns-in-End-clause-course
+returns-in-End-clause-course g c =
+    let prints = rw c.in-End.is at c.in_ok-telling.ensures.prints in
+    λ heard. says_then (g.B.Bout.rules c.args.bout.now) (g.B.Bout.rules c.loop-telling.bout) _ _ _
+    (g.B.Bout.at c.args.bout.now) (g.B.Bout.at c.loop-telling.bout) heard c.as_str.result.now
+    (string_bytes c.in_ok-telling.telling.text) (Closes (g.B.Bout.at c.tell.new.self))
+    c.loop-telling.invariant.allows (c.loop-telling.invariant.course heard)
+    c.in_ok-say_text.ensures.said c.in_ok-say_text.ensures.left c.as_str.ensures.value
+    (prints heard)
+
+pub loop-telling-preserved : goal.loop-telling-preserved
+loop-telling-preserved g c =
+    let prints = rw c.in-Text.is at c.in_ok-telling.ensures.prints in
+    let after = rw c.in-Text.is at c.in_ok-telling.ensures.after in
+    let so_far = c.loop-telling.invariant in
+    record {
+      course = λ heard. says_then (g.B.Bout.rules c.args.bout.now)
+          (g.B.Bout.rules c.loop-telling.bout) _ _ _ (g.B.Bout.at c.args.bout.now)
+          (g.B.Bout.at c.loop-telling.bout) heard c.as_str.result.now
+          (string_bytes c.in_ok-telling.telling.text) (Shows (g.B.Bout.at c.tell.new.self) heard)
+          so_far.allows (so_far.course heard) c.in_ok-say_text.ensures.said
+          c.in_ok-say_text.ensures.left c.as_str.ensures.value (prints heard);
+      moved = after;
+      room = omega (arith, so_far.room, c.in_ok-telling.ensures.room);
+      allows = allows_then _ _ _ so_far.allows c.in_ok-telling.ensures.allows;
+      faults = c.in_ok-say_text.ensures.causes ∙ so_far.faults;
+    }
