@@ -220,7 +220,8 @@ class Browser:
         return float(self.evaluate(DRAWN.format("performance.now()")))
 
     def busy(self) -> float:
-        """Returns the milliseconds of a processor that the page's thread has taken so far."""
+        """Returns the milliseconds of a processor that the page's thread has taken since the page
+        was opened: the count begins anew with each page."""
         found = self.call("Performance.getMetrics")["metrics"]
         return 1000 * next(float(it["value"]) for it in found if it["name"] == "TaskDuration")
 

@@ -333,11 +333,10 @@ class Measures(NamedTuple):
 def measured_once(browser: Browser, address: str) -> Measures:
     """Loads a page and follows a link in it."""
     browser.open("about:blank")
-    before = browser.busy()
     load = browser.open(address)
-    between = browser.busy()
+    busy = browser.busy()
     jump = float(browser.evaluate(JUMPED))
-    return Measures(load, between - before, jump, browser.busy() - between)
+    return Measures(load, busy, jump, browser.busy() - busy)
 
 
 def measured(browser: Browser, address: str, times: int) -> Measures:

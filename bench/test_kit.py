@@ -151,7 +151,7 @@ class Texts(unittest.TestCase):
 
     def test_data(self) -> None:
         name = "pictures.txt"
-        self.assertEqual([len(it) for it in kit.stanzas(name)], [33, 26])
+        self.assertEqual([len(it) for it in kit.stanzas(name)], [36, 33])
         self.assertNotIn("\n# ", kit.data(name))
 
 
