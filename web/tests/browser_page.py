@@ -317,6 +317,9 @@ def checks(page: Page, _: str, __: str) -> None:
     page.says("a pair missing", "result", r"proves nothing of this game.*node 0.*\(J6\)")
     page.use("posgame 1\nkind maker-breaker\ngrid 3 3\nline 0 9\nturn x\n")
     page.says("a fault", "hint", r"line 4: a point or a vertex is out of range \(G7\).*line 0 9")
+    for name in "triangle-connectivity.game", "six-vectors.game":
+        page.drop(kit.EXAMPLES / name)
+        page.says(name, "hint", r"isn't `posgame 1` .*\(G3\)\. The line is .posgame-")
     page.drop(kit.EXAMPLES / "empty-board-both.game")
     page.drop(kit.EXAMPLES / "two-children.record")
     page.says("a record", "result", "lost value")

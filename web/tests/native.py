@@ -8,11 +8,11 @@ same, and compares.
     web/tests/native.py settle [PROGRAM]             posgame-settle: the games of examples/
     web/tests/native.py draw [PROGRAM] [--solver S]  posgame-draw: these games with certificates
 
-Of a row what its script tells is printed too. Where the system's files differ from those in memory
-a run is printed as one that isn't real. Random runs are left out if they write standard error or
-end otherwise than the program does, and if their words name what the system refuses as a plain
-file: in memory any name is one. `draw` takes each game with each certificate of examples/ and with
-what the solver, posgame, stores of it, whole and damaged. Unproved.
+Of a row what its script tells is printed too. A run that a request answers otherwise, as
+docs/FORMATS.md says, is printed as one that isn't real. Random runs are left out if they write
+standard error or end otherwise than the program does, and if their words name what the system
+refuses as a plain file: in memory any name is one. `draw` takes each game with each certificate of
+examples/ and with what the solver, posgame, stores of it, whole and damaged. Unproved.
 """
 from __future__ import annotations
 
@@ -32,8 +32,10 @@ import kit  # noqa: E402
 import stories  # noqa: E402
 
 LONGEST = 255
-# Rows whose runs the system's files refuse: a file would take the place of one that is read.
-ONLY_IN_MEMORY = {"recording: the record takes the game's place"}
+# Runs that a request answers otherwise than the program. In the first the system's files refuse
+# that a file takes the place of one that is read. In the second `--book` is the name of a file in a
+# request, because the certificate's name is lacking.
+ONLY_IN_MEMORY = {"recording: the record takes the game's place", "a book of a game alone"}
 # What posgame-settle is asked of each game. The last lines have no meaning.
 SETTLED = """\
 G C --positions=3000
@@ -181,7 +183,8 @@ def draw(program: str, solver: str) -> None:
     games, certificates = dict(examples("game")), dict(examples("cert"))
     with kit.files() as folder:
         runs, solving = Runs("posgame-draw", program, folder), fuzz.Program(solver, folder)
-        for words in [], ["G"], ["--book", "G"], ["G", "C", "0", "0"], ["none", "C"]:
+        runs.run("a book of a game alone", ["--book", "G"])
+        for words in [], ["G"], ["G", "C", "0", "0"], ["none", "C"]:
             runs.run("no files", words)
         for name, game in games.items():
             (folder / "G").write_bytes(game)
