@@ -123,12 +123,14 @@ class Versus:
 
     def play(self, typed: bytes) -> str:
         """Returns all that is printed of a game with these lines, with its record's text."""
-        self.due = self.go_on()
-        for line in table.cut(typed)[:table.MOST_LINES]:
+        self.due, lines = self.go_on(), table.cut(typed)[:table.MOST_LINES]
+        for line in lines:
             more = self.answer(line) if self.table.score() is None else None
             if more is None:
                 break
             self.due += more
+        else:
+            self.due += self.table.end(len(lines))
         return self.due + f"recorded {len(self.table.moves)}\n"
 
     def record(self) -> str:
@@ -165,7 +167,8 @@ def main() -> int:
             wrong, proofs = list[str](), list[bool]()
             for _ in range(10):
                 lines = [table.drawn_line(draw, board) for _ in range(given.lines)]
-                versus, more = tried(given.program, board, side, turn, b"\n".join(lines), value)
+                typed = b"".join(line + b"\n" for line in lines)
+                versus, more = tried(given.program, board, side, turn, typed, value)
                 wrong += more
                 proofs += [is_proved for _, is_proved in versus.known.values()]
             shown.row(name, side, turn, len(proofs), sum(proofs), wrong=wrong)

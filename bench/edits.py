@@ -10,7 +10,7 @@ and over what `rt ci` has kept on this machine. To try all of them takes as long
 together. If all edits of a crate are refused, bench/edits/tried.txt gets a sum of the crate's code,
 definitions and edits; `--check`, which the gate calls, compares it. So an edit counts as tried
 until one of these changes, whatever changes in the crates below. What is wrong is printed, and the
-status is then 1. Unproved.
+status is then 1. A crate without a sum is only named. Unproved.
 """
 from __future__ import annotations
 
@@ -71,10 +71,19 @@ def edits_of(name: str) -> set[str]:
     return {f"{name}/{file.stem}" for file in (EDITS / name).glob("*.edit")}
 
 
-def untried(top: pathlib.Path, names: Iterable[str], sums: dict[str, str]) -> list[str]:
-    """Returns what there is to say of each crate whose edits weren't tried as it stands."""
+def changed(top: pathlib.Path, names: Iterable[str], sums: dict[str, str]) -> list[str]:
+    """Returns what there is to say of each crate that has changed since its edits were tried."""
     return [f"{name} has changed since its edits were tried: run bench/edits.py {name}"
-            for name in names if sums.get(name) != sum_of(top, name)]
+            for name in names if name in sums and sums[name] != sum_of(top, name)]
+
+
+def check(names: list[str]) -> int:
+    """Compares the sums of these crates, and names those without one; returns 1 if one differs."""
+    sums = noted(TRIED.read_text())
+    lacking = [name for name in names if name not in sums]
+    if lacking:
+        print("not tried since they were put into bench/edits:", *lacking)
+    return kit.end(changed(kit.TOP, names, sums))
 
 
 def try_in(copy: pathlib.Path, names: list[str]) -> int:
@@ -96,11 +105,13 @@ def main() -> int:
     """Tries edits, or looks whether they were tried."""
     words = kit.parser(__doc__, None)
     words.add_argument("--check", action="store_true", help="try nothing, and compare sums")
-    words.add_argument("names", metavar="NAME", nargs="*", choices=known(), help="all if left out")
+    words.add_argument("names", metavar="NAME", nargs="*", help="all if left out")
     given = words.parse_args()
     names = given.names or known()
+    for name in set(names) - set(known()):
+        words.error(f"there are no edits of {name} in bench/edits")
     if given.check:
-        return kit.end(untried(kit.TOP, names, noted(TRIED.read_text())))
+        return check(names)
     with kit.files() as folder:
         copy = folder / "posgame"
         for file in width.tracked():

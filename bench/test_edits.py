@@ -21,9 +21,9 @@ class Tried(unittest.TestCase):
             with kit.files() as top:
                 self.tree(top)
                 sums = {"pg_a": edits.sum_of(top, "pg_a")}
-                self.assertEqual(edits.untried(top, ["pg_a"], sums), [])
+                self.assertEqual(edits.changed(top, ["pg_a"], sums), [])
                 (top / name).write_text("another")
-                self.assertEqual(len(edits.untried(top, ["pg_a"], sums)), 1, name)
+                self.assertEqual(len(edits.changed(top, ["pg_a"], sums)), 1, name)
 
     def test_files_come_and_go(self) -> None:
         with kit.files() as top:
@@ -38,9 +38,9 @@ class Tried(unittest.TestCase):
     def test_never_tried(self) -> None:
         with kit.files() as top:
             self.tree(top)
-            said = edits.untried(top, ["pg_a"], {})
-            self.assertEqual(said, ["pg_a has changed since its edits were tried: "
-                                    "run bench/edits.py pg_a"])
+            self.assertEqual(edits.changed(top, ["pg_a"], {}), [])
+            self.assertEqual(edits.changed(top, ["pg_a"], {"pg_a": "another"}), [
+                "pg_a has changed since its edits were tried: run bench/edits.py pg_a"])
 
 
 if __name__ == "__main__":
