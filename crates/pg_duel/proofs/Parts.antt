@@ -1,32 +1,14 @@
 -- What a line leaves.
-use Rattle.std.proofs.Common.{◌≡◌, ◌∙◌, ℕ, true, Option, Some, None, Result, Ok, Err, sym, subst}
-use Rattle.std.proofs.Common.{refl}
-use Rattle.std.specs.Prelude.{IfSome, if◌then◌else◌}
+use Rattle.std.proofs.Common.{◌≡◌, ℕ, Some, Result, Ok, Err, sym, subst}
 use Rattle.pg_duel.proofs.Common.{AfterTurn, Allows, Claim, Game, Illegal, IsAnswered, IsFit}
-use Rattle.pg_duel.proofs.Common.{Look, Position, Score, Side, Sitting, claimed}
-use Rattle.pg_duel.proofs.Common.{chosen_claim, is_over, outcome, reaches, sitting_of}
+use Rattle.pg_duel.proofs.Common.{Look, Side, Sitting, claimed}
+use Rattle.pg_duel.proofs.Common.{chosen_claim, sitting_of}
 use Rattle.pg_duel.specs.DuelLog.{Holds, duel_rules}
 use Rattle.pg_duel.specs.Seats.{Sits, Stays}
 use Rattle.pg_duel.specs.declared.rival.Rival.{Rival}
 use Rattle.pg_opponent.specs.declared.seat.Seat.{Seat}
 use Rattle.pg_playing.proofs.Dialogues.{allows_same}
 use Rattle.pg_duel.proofs.Answering.{chosen_same}
-
--- the player's outcome reaches the goal
-pub outcome_holds : (g h : Game) (c : Claim) (p q : Position) (ending : Option Score)
-    → h ≡ g
-    → p ≡ q
-    → ending ≡ (if is_over h p then Some (outcome h p) else None)
-    → IfSome ending (λ score. reaches c.side c.goal score ≡ true)
-    → is_over g q ≡ true
-    → reaches c.side c.goal (outcome g q) ≡ true
-outcome_holds g h c p q ending same at exact reached over =
-    let there : is_over h p ≡ true = (λ i. is_over (same i) (at i)) ∙ over in
-    let is : ending ≡ Some (outcome h p) = exact ∙ rw there refl in
-    let holds : reaches c.side c.goal (outcome h p) ≡ true =
-    subst (λ (o : Option Score). IfSome o (λ score. reaches c.side c.goal score ≡ true)) is reached
-    in
-    (λ i. reaches c.side c.goal (outcome (sym same i) (sym at i))) ∙ holds
 
 -- another seat, of the same game and the same claim
 module _ (old : Rival) (new : Seat) (sits : Sits old)

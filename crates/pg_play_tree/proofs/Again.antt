@@ -4,12 +4,12 @@ use Rattle.std.proofs.Common.{◌+◌, ◌<◌, Result, Ok, inl, inr, refl, ap, 
 use Rattle.std.proofs.Common.{subst}
 use Rattle.std.proofs.lemmas.Bool.{false≢true}
 use Rattle.std.proofs.lemmas.Option.{same_Some}
-use Rattle.pg_cert.specs.OwnMove.{OwnMove, Standing, played_point}
+use Rattle.pg_cert.specs.OwnMove.{OwnMove, Standing}
 use Rattle.pg_game.proofs.Moves.{IsPosition-played, IsPosition-start, side≢other}
 use Rattle.pg_game.specs.Play.{IsLegalPlay, played}
 use Rattle.pg_game.specs.declared.position.Illegal.{Illegal}
 use Rattle.pg_play_tree.specs.Prelude.{Cert, Claim, Game, MakesMove, Play, Position, Side}
-use Rattle.pg_play_tree.specs.Prelude.{Waits, after, arrives, judged_move}
+use Rattle.pg_play_tree.specs.Prelude.{Waits, arrives, judged_move}
 use Rattle.pg_play_tree.specs.Prelude.{IsPosition, start}
 use Rattle.pg_play_tree.specs.Lines.{ComesTo, Opens, Plays}
 use Rattle.pg_play_tree.specs.Places.{CanPlay, CanPlayAll, Leads, OpensTo}
@@ -55,12 +55,6 @@ imagined_once : (a b c : Play) (v w : ℕ) (m : MakesMove a b v) (n : MakesMove 
     → m.imagined ≡ n.imagined
 imagined_once a b c v w m n = same_Some _ _ (sym m.own ∙ n.own)
 
--- it moves to one point
-pub moves_same : (a b c : Play) (v w : ℕ) → MakesMove a b v → MakesMove a c w → v ≡ w
-moves_same a b c v w m n = m.chosen
-    ∙ ap (λ (i : OwnMove). played_point a.game a.position i) (imagined_once a b c v w m n)
-    ∙ sym n.chosen
-
 -- a point leads it to one place
 pub plays_once : (a b c : Play) (v : ℕ) → Plays a b v → Plays a c v → b ≡ c
 plays_once a b c v (inl m) (inl n) =
@@ -87,13 +81,6 @@ pub leads_once : (vs : List ℕ) (a b c : Play) → Leads a vs b → Leads a vs 
 leads_once [] a b c l k = l ∙ sym k
 leads_once (v ∷ vs) a b c (m, p, l) (n, q, k) =
     leads_once vs n b c (subst (λ (x : Play). Leads x vs b) (plays_once a m n v p q) l) k
-
-pub leads_push : (vs : List ℕ) (a m b : Play) (v : ℕ)
-    → Leads a vs m
-    → Plays m b v
-    → Leads a (vs ++ v ∷ []) b
-leads_push [] a m b v same p = (b, subst (λ (x : Play). Plays x b v) same p, refl)
-leads_push (w ∷ ws) a m b v (n, q, l) p = (n, q, leads_push ws n m b v l p)
 
 pub leads_split : (vs : List ℕ) (a b : Play) (v : ℕ)
     → Leads a (vs ++ v ∷ []) b
