@@ -297,13 +297,6 @@ whole_each most f first (suc many) h =
     (h first (omega arith) (omega arith)) (whole_each most f (first + 1) many
     (λ k low high. h k (omega (arith, low)) (omega (arith, high))))
 
-pub whole_list : {A : Type 0} (most : ℕ) (f : A → Bytes) (xs : List A)
-    → AllByRecursion (λ x. Whole most (f x)) xs
-    → Whole most (flat_map f xs)
-whole_list most f [] h = whole_none most
-whole_list most f (x ∷ xs) h =
-    whole_and most (f x) (flat_map f xs) h.0 (whole_list most f xs h.1)
-
 -- whether each line keeps within so many columns in a text of plain bytes that goes on from a
 -- column and ends with the end of a line
 unfoldable pub rows_keep : ℕ → ℕ → Bytes → Bool

@@ -3,6 +3,7 @@ pub mod Widths
 pub mod Ranges
 pub mod PaperPlaces
 pub mod PaperEnds
+pub mod MadeBridges
 pub mod Fit
 pub mod Printed
 pub mod PrintedCharts

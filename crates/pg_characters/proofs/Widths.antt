@@ -1,6 +1,6 @@
 -- How wide a board of cells is.
 use Rattle.std.proofs.Common.{◌≡◌, ◌∙◌, ℕ, zero, suc, ◌+◌, ◌*◌, ◌<◌, ◌≤◌, arith}
-use Rattle.std.proofs.Math.Nat.{mul-le-mul_right, mul-suc, mul-zero, mul_comm, suc-mul, zero-mul}
+use Rattle.std.proofs.Math.Nat.{mul-suc, mul-zero, mul_comm, zero-mul}
 
 -- it has a column
 pub some_columns : (w h n : ℕ) → w * h ≡ n → 1 ≤ n → 0 < w
@@ -21,11 +21,3 @@ few_columns w (suc h) n e some =
 -- nor more rows
 pub few_rows : (w h n : ℕ) → w * h ≡ n → 1 ≤ n → h ≤ n
 few_rows w h n e some = few_columns h w n (mul_comm h w ∙ e) some
-
--- a cell's number is below that of all cells
-pub cell_below : (w h row column : ℕ) → row < h → column < w → row * w + column < w * h
-cell_below w h row column low left =
-    let rows : suc row * w ≤ h * w = mul-le-mul_right w (omega arith) in
-    let more = suc-mul row w in
-    let turned = mul_comm h w in
-    omega arith

@@ -1,6 +1,8 @@
-//! The law of Bridg-It on paper. Its function is empty: what it promises is a law of the
+//! The laws of Bridg-It on paper. Each function is empty: what it promises is a law of the
 //! definitions alone.
-ghost use Rattle.std.specs.Prelude.{◌≡◌, ◌<◌, ◌≤◌, ◌+◌, ◌-◌, ℕ, Some, slice_get};
+ghost use Rattle.std.specs.Prelude.{◌≡◌, ◌<◌, ◌≤◌, ◌+◌, ◌-◌, ℕ, Some, slice_get, true};
+ghost use Rattle.pg_game.specs.declared.field.Field.TheVariants.{Graph as OnGraph};
+ghost use Rattle.pg_gen.specs.Bridge.{bridge_field, has_bridge};
 ghost use Rattle.pg_characters.specs.Bridges.{paper_rows, vertex_at};
 ghost use Rattle.pg_characters.specs.Spots.{edge_column, edge_of, edge_row, edges_on, span_of};
 ghost use Rattle.pg_characters.specs.Spots.{spot_at};
@@ -29,4 +31,11 @@ pub fn edges_have_their_places()
         → column < span_of r
         → spot_at r row column ≡ Spot.Edge e Side.Y
         → slice_get h.ends e ≡ Some (vertex_at r (row - 1) column, vertex_at r (row + 1) column) }
+{}
+
+/// The graph of each Bridg-It board that `bridge` of `pg_gen` makes is found to be the board of so
+/// many rows, and so it is drawn as it is on paper.
+pub fn bridges_are_found()
+    ensures { (r : ℕ) → (h : Graph) → has_bridge r ≡ true → bridge_field r ≡ OnGraph h
+        → paper_rows h ≡ Some r }
 {}

@@ -3,6 +3,7 @@
 #![tactic(auto)]
 
 mod answering;
+pub mod laws;
 mod options;
 mod parts;
 mod request;
