@@ -1,6 +1,7 @@
 //! The certificates in a folder.
-ghost use Rattle.std.specs.Prelude.{IfOk, IfSome};
+ghost use Rattle.std.specs.Prelude.{◌≡◌, IfOk, IfSome};
 ghost use Rattle.pg_cert.specs.Limits.{IsWithinLimits};
+ghost use Rattle.pg_io.specs.Files.{ReadsOnly};
 ghost use Rattle.pg_join.specs.Pieces.{IsFound};
 
 use pg_base::Memory;
@@ -13,13 +14,14 @@ use pg_plan::cert_name;
 use pg_unfold::{ImageFault, unfold};
 use std::alloc::Global;
 
-/// A folder, and the files by which it is read.
+/// A folder, and the files by which it is read. Only `certificate` uses these, so no name in them
+/// changes.
 #[derive(Drop)]
 pub(crate) struct Folder<'a, F: Files + Drop> {
     /// The files of the system, or those of a test.
-    pub(crate) files: F,
+    files: F,
     /// The name of the folder.
-    pub(crate) name: &'a str,
+    name: &'a str,
 }
 
 /// What is under the name of a certificate.
@@ -61,6 +63,13 @@ fn certificate_of(alloc: Global, game: &Game, text: &[u8]) -> Result<Option<Cert
 }
 
 impl<'a, F: Files + Drop> Folder<'a, F> {
+    /// Returns the folder of this name, read by these files.
+    pub(crate) fn new(name: &'a str, files: F) -> Folder<'a, F>
+        ensures { result.files ≡ files }
+    {
+        Folder { files, name }
+    }
+
     /// Returns what is under the name of the certificate of this number, for the game.
     pub(crate) fn certificate(
         &mut self,
@@ -68,7 +77,8 @@ impl<'a, F: Files + Drop> Folder<'a, F> {
         game: &Game,
         file: u32,
     ) -> Result<Found, Memory>
-        ensures { IfOk result IsFound }
+        ensures found { IfOk result IsFound }
+        ensures kept { ReadsOnly (F.told self.old.files) (F.told self.new.files) }
     {
         let name = cert_name(alloc, self.name, file)?;
         match read_whole(alloc, &mut self.files, name.as_str(), MAX_CERT_BYTES) {

@@ -1,5 +1,6 @@
 //! Joining, as a finder.
 ghost use Rattle.std.specs.Prelude.{IfOk};
+ghost use Rattle.pg_join.specs.Brought.{HasFewNodes, IsJoined};
 ghost use Rattle.pg_settle.specs.Findings.{IsWritable};
 
 use crate::folder::Folder;
@@ -8,10 +9,10 @@ use crate::needed::Needed;
 use crate::survey::survey;
 use pg_backing::{View, copy_of, needs_of, positions_of, spans_of};
 use pg_base::{Memory, Score};
-use pg_cert::Cert;
 use pg_game::Game;
 use pg_io::Files;
 use pg_plan::Plan;
+use pg_results::node_count;
 use pg_settle::{Budget, Finder, Finding, Outcome};
 use std::alloc::Global;
 
@@ -27,15 +28,6 @@ pub struct Joiner<'a, F: Files + Drop> {
     folder: Folder<'a, F>,
     /// The positions that are needed, the most telling first.
     pub needed: Needed,
-}
-
-/// Returns how many nodes the certificate has.
-fn size(certificate: &Cert) -> usize {
-    let mut count = 0usize;
-    for claim in certificate.claims.as_slice() {
-        count = count.saturating_add(claim.nodes.as_slice().len());
-    }
-    count
 }
 
 impl<'a, F: Files + Drop> Joiner<'a, F> {
@@ -54,10 +46,7 @@ impl<'a, F: Files + Drop> Joiner<'a, F> {
         let needed = Needed::new(alloc, Vec::new(alloc))?;
         Ok(Joiner {
             plan,
-            folder: Folder {
-                files,
-                name: folder,
-            },
+            folder: Folder::new(folder, files),
             needed,
         })
     }
@@ -65,7 +54,8 @@ impl<'a, F: Files + Drop> Joiner<'a, F> {
     /// Returns a certificate of the value of the game's position, if the folder has those on which
     /// it rests; else none, and what is needed is kept.
     fn join(&mut self, alloc: Global, game: &Game, budget: Budget) -> Result<Finding, Memory>
-        ensures { IfOk result IsWritable }
+        ensures writable { IfOk result IsWritable }
+        ensures few { IfOk result (HasFewNodes budget.nodes) }
     {
         let Some(mut there) = copy_of(alloc, game)? else {
             return Ok(Finding::Open);
@@ -102,18 +92,21 @@ fn bring<F: Files + Drop>(
     budget: Budget,
     folder: &mut Folder<'_, F>,
 ) -> Result<Finding, Memory>
-    ensures { IfOk result IsWritable }
+    ensures writable { IfOk result IsWritable }
+    ensures few { IfOk result (HasFewNodes budget.nodes) }
 {
     let Some(certificate) = certificate_for(alloc, view, score, folder)? else {
         return Ok(Finding::Open);
     };
-    if size(&certificate) > budget.nodes as usize {
+    if node_count(&certificate) > budget.nodes {
         return Ok(Finding::Open);
     }
     Ok(Finding::Certificate { score, certificate })
 }
 
 impl<'a, F: Files + Drop> Finder for Joiner<'a, F> {
+    ghost brings = { λ _ _ budget outcome. IsJoined budget outcome };
+
     fn find(&mut self, alloc: Global, game: &Game, budget: Budget) -> Result<Outcome, Memory> {
         let finding = self.join(alloc, game, budget)?;
         Ok(Outcome {

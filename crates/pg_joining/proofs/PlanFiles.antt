@@ -1,13 +1,12 @@
 -- What the name of a plan holds, from what was read of it.
-use Rattle.std.proofs.Common.{◌≡◌, ◌+◌, ℕ, List, take, Option, Some, None, Result, Ok, Err}
+use Rattle.std.proofs.Common.{◌≡◌, ◌+◌, ℕ, List, take, Option, Some, None, Result, Err}
 use Rattle.std.proofs.Common.{refl, ◌∙◌, ap, subst}
 use Rattle.pg_plan.specs.declared.fault.Fault.TheVariants.{Size}
 use Rattle.pg_plan.specs.declared.fault.TheConstants.{MAX_PLAN_BYTES}
 use Rattle.pg_joining.proofs.Common.{Bytes, Fault, Holding, IsFile, IsWhole, Place, cut_same}
 unfoldable use Rattle.pg_joining.proofs.Common.{plan_of}
-use Rattle.pg_joining.specs.Plans.{IsPlanRead, IsReadSo, IsStopped, OpensPlan, plan_in}
+use Rattle.pg_joining.specs.Plans.{IsPlanRead, IsReadSo, OpensPlan, plan_in}
 use Rattle.pg_joining.specs.declared.plan_file.NoPlan.{NoPlan}
-use Rattle.pg_joining.specs.declared.plan_file.NoPlan.TheVariants.{Faulty, Stopped}
 
 -- one byte more than the limit tells as much as the whole file
 plan_cut : (all : Bytes) → plan_of (take (MAX_PLAN_BYTES + 1) all) ≡ plan_of all
@@ -30,18 +29,3 @@ pub plan_opens : (h : Option Holding) (folder text : Bytes) (r : Result (List Pl
 plan_opens None folder text r whole is = tt
 plan_opens (Some held) folder text r whole is =
     whole_read (held (plan_in folder)) text r whole is
-
--- reading was stopped
-stopped_read : (o : Option Bytes) (r : Result (List Place) NoPlan)
-    → IsStopped r
-    → IsPlanRead o r
-stopped_read None r is = is
-stopped_read (Some text) (Ok places) is = absurd is
-stopped_read (Some text) (Err (Faulty number line)) is = absurd is
-stopped_read (Some text) (Err (Stopped stop)) is = tt
-
-pub stopped_opens : (h : Option Holding) (folder : Bytes) (r : Result (List Place) NoPlan)
-    → IsStopped r
-    → OpensPlan h folder r
-stopped_opens None folder r is = tt
-stopped_opens (Some held) folder r is = stopped_read (held (plan_in folder)) r is

@@ -10,7 +10,7 @@ use Rattle.pg_joining.proofs.Common.{Said, Starved, Stop, StoppedHalt, UNKNOWN}
 use Rattle.pg_joining.proofs.Common.{Write, behind, ending, kept, needs_text}
 use Rattle.pg_joining.proofs.Common.{nothing, silent, stop_end, stop_ends, talk}
 use Rattle.pg_joining.proofs.Common.{talked_texts}
-use Rattle.pg_joining.specs.Joins.{Anything, JoinRan, JoinedBy, Joins, JoinsIn, Settled}
+use Rattle.pg_joining.specs.Joins.{MayCome, JoinRan, JoinedBy, Joins, JoinsIn, Settled}
 use Rattle.pg_joining.specs.Plans.{IsPlanRead, OpensPlan, plan_fault_text, plan_in}
 use Rattle.pg_joining.specs.Telling.{EndsOnNeeds, EndsOnPlan}
 use Rattle.pg_joining.specs.declared.plan_file.NoPlan.TheVariants.{Faulty}
@@ -76,12 +76,12 @@ module _ (form : Form) (game name : Bytes) (budget : Budget) (files files' : Fil
         )
 
   pub joined_needs : (before mid after : ConsoleTold) (needs : List Need) (status : ℕ)
-      → Ran Anything form game name budget files files' before mid UNKNOWN
+      → Ran MayCome form game name budget files files' before mid UNKNOWN
       → EndsOnNeeds needs mid after status
       → JoinedBy form game name budget files files' before after status
   joined_needs before mid after needs status ran ends = go files.held ran where
     go : (h : Option Holding)
-        → IfSome h (λ held. RanOn Anything form held game name budget files' before mid
+        → IfSome h (λ held. RanOn MayCome form held game name budget files' before mid
         (Finished UNKNOWN))
         → IfSome h (λ held. (done : Done) × Joins form game name budget held done (ending status)
         × Changes held files' before after done (ending status))

@@ -12,7 +12,7 @@ use Rattle.pg_joining.proofs.Common.{Contains-append_cases, Entry, FilesTold, Fi
 use Rattle.pg_joining.proofs.Common.{Game, Grows, Grows-nothing, Holding, IsLineOf, Need, Ran}
 use Rattle.pg_joining.proofs.Common.{RanOn, Said, SaysValue, UNKNOWN, apart}
 use Rattle.pg_joining.proofs.Common.{append_cancel_left, needs_text, none_of, one_of, said_is}
-use Rattle.pg_joining.specs.Joins.{Anything}
+use Rattle.pg_joining.specs.Joins.{MayCome}
 use Rattle.pg_joining.specs.Plans.{plan_fault_text}
 use Rattle.pg_joining.specs.Telling.{EndsOnNeeds, EndsOnPlan}
 
@@ -147,13 +147,13 @@ module _ (form : Form) (game name : Bytes) (budget : Budget) (files files' : Fil
       (same_entries after.log earlier first entries (ends.1 ∙ mid_is) after_is) says
 
   pub needs_values : (status : ℕ)
-      → Ran Anything form game name budget files files' before mid UNKNOWN
+      → Ran MayCome form game name budget files files' before mid UNKNOWN
       → AnnouncesValue files.held game before.log mid.log
       → EndsOnNeeds needs mid after status
       → AnnouncesValue files.held game before.log after.log
   needs_values status ran announces ends held earlier entries told_is log_is after_is =
       let ran_on = subst (λ (h : Option Holding). IfSome h (λ held.
-      RanOn Anything form held game name budget files' before mid (Finished UNKNOWN)))
+      RanOn MayCome form held game name budget files' before mid (Finished UNKNOWN)))
       told_is ran in
       let mid_is = grown_so before.log mid.log earlier ran_on.0.entries log_is
       ran_on.2.talked.logged in

@@ -1,19 +1,21 @@
 -- WHAT A RUN IS.
-use Rattle.std.specs.Prelude.{◌≡◌, ◌≢◌, ◌⊎◌, ℕ, List, [], ◌∷◌, Ok, IfSome, ⊤}
+use Rattle.std.specs.Prelude.{◌≡◌, ◌≢◌, ◌⊎◌, ℕ, List, [], ◌∷◌, Ok, IfSome}
 use Rattle.pg_joining.specs.Prelude.{Allows, Budget, Bytes, Changes, ConsoleTold, Done, End}
 use Rattle.pg_joining.specs.Prelude.{Failed, FilesTold, Finished, Form, Game, Holding, Need}
 use Rattle.pg_joining.specs.Prelude.{Outcome, Place, Said, Starved, UNKNOWN, behind, ending}
 use Rattle.pg_joining.specs.Prelude.{needs_text, talk}
+use Rattle.pg_join.specs.Brought.{IsJoined}
 use Rattle.pg_joining.specs.Plans.{DeclinesPlan, IsPlanRead, plan_in}
 
--- what may come of joining: anything, since it isn't trusted
-abbrev pub Anything : Game → Budget → Outcome → Type 0
-Anything g budget outcome = ⊤
+-- what may come of joining: with no position expanded anything of few enough nodes, since it isn't
+-- trusted
+abbrev pub MayCome : Game → Budget → Outcome → Type 0
+MayCome g budget outcome = IsJoined budget outcome
 
 module _ (form : Form) (game name : Bytes) (budget : Budget) where
   -- the game is settled by what comes of joining, or what stands against that is printed
   abbrev pub Settled : Holding → Done → End → Type 0
-  Settled held done end = Allows Anything form held game name budget done end
+  Settled held done end = Allows MayCome form held game name budget done end
 
   -- the game stays open, which is printed, and then the positions are printed that are needed
   abbrev pub TellsNeeds : Holding → Done → Type 0

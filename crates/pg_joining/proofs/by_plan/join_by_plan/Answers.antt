@@ -3,7 +3,7 @@ use Rattle.pg_joining.proofs.Common.{Bytes, Ran, UNKNOWN, form_of}
 use Rattle.pg_joining.proofs.Ends.{unknown_status}
 use Rattle.pg_joining.proofs.Runs.{joined_needs, joined_starved}
 use Rattle.pg_joining.proofs.Values.{needs_values, unsaid_values}
-use Rattle.pg_joining.specs.Joins.{Anything}
+use Rattle.pg_joining.specs.Joins.{MayCome}
 use Rattle.pg_joining.specs.Telling.{EndsSaying}
 use Rattle.pg_joining.proofs.by_plan.join_by_plan.Goals as goal
 
@@ -29,7 +29,7 @@ returns-clause-ran g c =
     let after = g.C.Console.told c.tell_text.new.console in
     joined_needs form c.args.order.game.now c.args.order.certificate.now c.args.order.budget files
     files' before mid after c.settle-status.new.finder.needed c.tell_text.result
-    (subst (λ (s : ℕ). Ran Anything form c.args.order.game.now c.args.order.certificate.now
+    (subst (λ (s : ℕ). Ran MayCome form c.args.order.game.now c.args.order.certificate.now
     c.args.order.budget files files' before mid s) c.if-status-ne-UNKNOWN.false
     c.settle-status.ensures.ran)
     (subst (λ (t : Bytes). EndsSaying t UNKNOWN mid after c.tell_text.result) c.text.ensures
@@ -45,7 +45,7 @@ returns-clause-forced g c =
     let after = g.C.Console.told c.tell_text.new.console in
     needs_values form c.args.order.game.now c.args.order.certificate.now c.args.order.budget files
     files' before mid after c.settle-status.new.finder.needed c.tell_text.result
-    (subst (λ (s : ℕ). Ran Anything form c.args.order.game.now c.args.order.certificate.now
+    (subst (λ (s : ℕ). Ran MayCome form c.args.order.game.now c.args.order.certificate.now
     c.args.order.budget files files' before mid s) c.if-status-ne-UNKNOWN.false
     c.settle-status.ensures.ran) c.settle-status.ensures.forced
     (subst (λ (t : Bytes). EndsSaying t UNKNOWN mid after c.tell_text.result) c.text.ensures
