@@ -8,8 +8,8 @@
 The quick rows take the proved programs in crates/NAME/out; no clock decides them. The rows of
 minutes need a quiet machine where they have a limit of time. One row is tried only where it is
 named, since it changes the machine: `--only dpkg` installs the Debian package. `--list` shows all
-rows, and `--only WORD` tries those with the word in their names. Each row prints its figures, and
-what missed its limit; then the status is 1. Nothing here is proved.
+rows, `--only WORD` tries those with the word in their names, and `--point N` those of a point. Each
+row prints its figures, and what missed its limit; then the status is 1. Nothing here is proved.
 """
 from __future__ import annotations
 
@@ -465,6 +465,54 @@ def odd_names() -> str:
     return "8 runs"
 
 
+def slips() -> str:
+    """What is said of common slips in a game file, besides its code."""
+    head = b"posgame 1\nkind maker-breaker\npoints 3\n"
+    cases = (
+        (head.replace(b"\n", b"\r\n"), "G2 line 1", "lines end as on Windows"),
+        (b"\xef\xbb\xbf" + head, "G2 line 1", "byte order mark"),
+        (b"posgame 1\nkind maker breaker\n", "G4 line 2", "a kind is maker-breaker, "),
+        (head + b"line 0 1\nturn Maker\n", "G4 line 5", "a turn is x or y"),
+        (head + b"line 0 1 # top\n", "G6 line 4", "a comment has a line of its own"),
+        (head + b"line 0, 1\n", "G6 line 4", "no commas"),
+        (head + b"line 1 3\n", "G7 line 4", "numbered from 0"),
+        (head + b"line 0 1\nTurn x\n", "G4 line 5", r"\(G4\)\n    Turn x$"),
+    )
+    with folder() as room:
+        for data, fault, says in cases:
+            (room / "slip.game").write_bytes(data)
+            ended = run(TOP / "posgame", ["solve", "slip.game", "slip.cert"], cwd=room)
+            found = (ended.returncode, ended.stdout)
+            expect(found == (3, f"game {fault}\n"), f"{data!r}: {found}")
+            expect(bool(re.search(says, ended.stderr.rstrip())), f"{data!r}: {ended.stderr!r}")
+    return f"{len(cases)} slips"
+
+
+def spared() -> str:
+    """No file that is read is replaced by the record, or as one behind a task's word."""
+    cases = [
+        (PLAYS, ["game", "--record", "game"], "record would replace game"),
+        (PLAYS, ["game", "--record=link"], "record would replace game"),
+        (PLAYS, ["game", "--computer", "x", "--record", "game"], "record would replace game"),
+        (PLAYS, ["game", "cert", "--record", "game"], "record would replace game"),
+        (PLAYS, ["game", "cert", "--record", "cert"], "record would replace cert"),
+        (SETTLES, ["--json", "moves", "game"], "a file of this name is ./moves"),
+    ]
+    with folder() as room:
+        for name, source in {"game": BOARD, "cert": PAIRS, "moves": BOARD}.items():
+            shutil.copy(TOP / source, room / name)
+        (room / "link").symlink_to("game")
+        before = [(room / name).read_bytes() for name in ("game", "cert", "moves")]
+        for program, words, says in cases:
+            ended = run(program, words, cwd=room, input="quit\n")
+            due = 6 if program == PLAYS else 2
+            expect((ended.returncode, ended.stdout) == (due, ""), f"{words}: {ended}")
+            expect(says in ended.stderr, f"{words}: {ended.stderr!r}")
+            after = [(room / name).read_bytes() for name in ("game", "cert", "moves")]
+            expect(after == before, f"{words}: a file was replaced")
+    return f"{len(cases)} runs"
+
+
 SMALL_DISK = """
 mount -t tmpfs -o size=4k none "$1" && { [[ $2 == empty ]] || cat /dev/zero > "$1/all"; } 2> "$3"
 shift 3
@@ -872,6 +920,8 @@ ROWS = [
     Row(3, "texts of the codes", codes),
     Row(3, "usage", usage),
     Row(3, "odd names, and games from standard input", odd_names),
+    Row(3, "slips in a game file", slips),
+    Row(3, "files that are read are spared", spared),
     Row(3, "full disks", full_disks),
     Row(3, "closed descriptors", closed_descriptors),
     Row(3, "dialogues on a terminal", dialogues),

@@ -1,4 +1,5 @@
 //! What went wrong, said to people on standard error.
+use crate::sparing::replaced;
 use crate::usage::{Asked, NAME};
 use pg_messages::{NO_MEMORY, READ_FAILED, WRITE_FAILED};
 use std::fs;
@@ -22,15 +23,22 @@ fn say_unreadable(rt: &HostRuntime, asked: &Asked<'_>) {
     }
 }
 
+/// Says which file the record would replace, or that something can't be written.
+fn say_unwritten(rt: &HostRuntime, asked: &Asked<'_>) {
+    let _ = match replaced(rt, asked) {
+        Some(name) => eprintln!(rt; "{NAME}: the record would replace {name}"),
+        None => eprintln!(rt; "{NAME}: the record or standard output couldn't be written"),
+    };
+}
+
 /// Says what statuses of calls and memory mean; the codes of faults are on standard output.
 pub(crate) fn say(rt: &HostRuntime, status: u8, asked: &Asked<'_>) {
-    let _ = match status {
-        READ_FAILED => {
-            say_unreadable(rt, asked);
-            Ok(())
+    match status {
+        READ_FAILED => say_unreadable(rt, asked),
+        WRITE_FAILED => say_unwritten(rt, asked),
+        NO_MEMORY => {
+            let _ = eprintln!(rt; "{NAME}: out of memory");
         }
-        WRITE_FAILED => eprintln!(rt; "{NAME}: the record or standard output couldn't be written"),
-        NO_MEMORY => eprintln!(rt; "{NAME}: out of memory"),
-        _ => Ok(()),
-    };
+        _ => {}
+    }
 }

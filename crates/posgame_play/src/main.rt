@@ -4,6 +4,7 @@
 
 mod complaint;
 mod look;
+mod sparing;
 mod usage;
 
 use pg_base::Side;
@@ -16,7 +17,7 @@ use pg_io::{Console, Files};
 use pg_laying::{open_layout, tell_no_layout};
 use pg_layout::Chart;
 use pg_limits::Unwatched;
-use pg_messages::{NO_MEMORY, NO_WORDS};
+use pg_messages::{NO_MEMORY, NO_WORDS, WRITE_FAILED};
 use pg_playing::{Order, play};
 use pg_results::end_early;
 use pg_settle::Budget;
@@ -139,8 +140,11 @@ fn look_with_layout<F: Files, C: Console>(
     }
 }
 
-/// Plays the game, and returns the status.
+/// Plays the game, unless the record would replace a file that is read, and returns the status.
 fn run(rt: &HostRuntime, asked: &Asked<'_>) -> u8 {
+    if sparing::replaced(rt, asked).is_some() {
+        return WRITE_FAILED;
+    }
     let mut files = HostFiles::new(rt);
     let mut console = HostConsole::new(rt);
     let plain = look::look(rt);

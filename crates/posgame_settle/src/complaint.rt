@@ -1,6 +1,6 @@
 //! What went wrong, said to people on standard error.
 use crate::looking::{is_hidden, is_open};
-use crate::usage::{Asked, NAME, Task};
+use crate::usage::{Asked, NAME, Task, is_task};
 use pg_messages::{NO_MEANING, NO_MEMORY, READ_FAILED, WRITE_FAILED};
 use pg_plan::plan_name;
 use std::fs;
@@ -45,12 +45,22 @@ fn say_unwritten(rt: &HostRuntime, asked: &Asked<'_>) {
     };
 }
 
+/// Says why the words have no meaning, though `clap` has read them.
+fn say_meaningless(rt: &HostRuntime, asked: &Asked<'_>) {
+    let game = asked.game;
+    let _ = if is_task(game) {
+        eprintln!(rt;
+            "{NAME}: {game} stands before all options, and a file of this name is ./{game}"
+        )
+    } else {
+        eprintln!(rt; "{NAME}: a number is outside its range")
+    };
+}
+
 /// Says what statuses of calls and memory mean; the codes of faults are on standard output.
 pub(crate) fn say(rt: &HostRuntime, status: u8, asked: &Asked<'_>) {
     match status {
-        NO_MEANING => {
-            let _ = eprintln!(rt; "{NAME}: a number is outside its range");
-        }
+        NO_MEANING => say_meaningless(rt, asked),
         READ_FAILED => say_unread(rt, asked),
         WRITE_FAILED => say_unwritten(rt, asked),
         NO_MEMORY => {

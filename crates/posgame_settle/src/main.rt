@@ -20,7 +20,7 @@ use progress::ShownFinder;
 use std::env;
 use std::io::ErrorKind;
 use std::process::ExitCode;
-use usage::{Asked, Task};
+use usage::{Asked, Task, is_task};
 
 /// Returns the words of the command line after the program's name, or the status without them.
 fn words_given(rt: &HostRuntime) -> Result<Vec<String>, u8> {
@@ -90,10 +90,14 @@ fn run_on_positions(rt: &HostRuntime, asked: &Asked<'_>, folder: &str) -> u8 {
     split_game(rt.alloc(), order, &mut files, &mut console)
 }
 
-/// Settles the game, and returns the status.
+/// Settles the game, and returns the status. A task's word behind an option is no game's name, lest
+/// the game behind it be replaced by a certificate.
 fn run_on_game(rt: &HostRuntime, asked: &Asked<'_>, budget: Budget) -> u8
     requires { IsBudget budget }
 {
+    if is_task(asked.game) {
+        return NO_MEANING;
+    }
     let order = Order {
         game: asked.game,
         certificate: asked.certificate,

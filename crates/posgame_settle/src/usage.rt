@@ -224,6 +224,11 @@ fn text<'a>(given: &ArgMatches<'a>, name: &str) -> &'a str {
     given.get_str(name).unwrap_or("")
 }
 
+/// Returns whether this is the word of a task, which has to stand before all options.
+pub(crate) fn is_task(word: &str) -> bool {
+    word == MOVES || word == SPLIT || word == JOIN
+}
+
 /// Returns what the words ask for; or what `clap` has to say of them: the help or the version that
 /// they ask for, or what is wrong with them.
 pub(crate) fn read_words<'a>(alloc: Global, words: &'a [String]) -> Result<Asked<'a>, Error> {
