@@ -1,5 +1,5 @@
 #!/usr/bin/env python3
-"""Measures parts of a search by themselves, under callgrind. PROGRAM is bench_parts. Unproved.
+"""Measures parts of a search by themselves, under callgrind. PROGRAM is test_rows. Unproved.
 
     bench/parts.py [PROGRAM] board | threat | match
 """
@@ -149,4 +149,4 @@ def match(program: str) -> None:
 
 
 if __name__ == "__main__":
-    raise SystemExit(kit.call_part(__doc__, "bench_parts", board, threat, match))
+    raise SystemExit(kit.call_part(__doc__, "test_rows", board, threat, match))

@@ -1,16 +1,21 @@
 //! Reads tables of rows from the input, and says of each table whether the crates answer all its
-//! rows as they tell.
+//! rows as they tell. With words it does a part of a search instead, which scripts measure.
 #![tactic(auto)]
 
+mod asking;
+mod boards;
 mod games;
 mod graphs;
 mod image_files;
 mod maps;
 mod matching;
+mod meanings;
+mod parts;
 mod plainly;
 mod points;
 mod polyominoes;
 mod telling;
+mod threats;
 
 use pg_plain::word;
 use std::alloc::Global;
@@ -25,6 +30,7 @@ fn is_so(alloc: Global, group: &str, question: &str, row: &str) -> Option<bool> 
         "image-files" => image_files::is_so(alloc, question, row),
         "maps" => maps::is_so(alloc, question, row),
         "matching" => matching::is_so(alloc, question, row),
+        "meanings" => meanings::is_so(alloc, row),
         "points" => points::is_so(alloc, question, row),
         "polyominoes" => polyominoes::is_so(alloc, question, row),
         _ => None,
@@ -54,10 +60,21 @@ fn answer(rt: &HostRuntime, table: &str) -> io::Result<()> {
     Ok(())
 }
 
-fn main(rt: HostRuntime) -> io::Result<()> {
+/// Says of each table of the input whether its rows are so, and then what small rows of each part
+/// tell.
+fn answer_all(rt: &HostRuntime) -> io::Result<()> {
     let tables = io::read_to_string(rt.alloc(), rt.reader())?;
     for table in tables.split("\ntable ").skip(1) {
-        answer(&rt, table)?;
+        answer(rt, table)?;
     }
-    Ok(())
+    parts::tell(rt, parts::ROWS)
+}
+
+fn main(rt: HostRuntime) -> io::Result<()> {
+    let row = parts::row(&rt)?;
+    if row.is_empty() {
+        answer_all(&rt)
+    } else {
+        parts::tell(&rt, row.as_str())
+    }
 }

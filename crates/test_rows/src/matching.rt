@@ -12,7 +12,7 @@ use pg_plain::{game, part};
 use std::alloc::Global;
 
 /// The lines of a game on lines.
-fn lines_of(g: &Game) -> Option<&Lines>
+pub(crate) fn lines_of(g: &Game) -> Option<&Lines>
     ensures few { IfSome result (λ lines. length lines.now ≤ MAX_LINES) }
     ensures range { IfSome result (λ lines. All (All (λ v. v < MAX_MEMBERS)) lines.now) }
 {

@@ -212,20 +212,28 @@ fn push_run(
     Ok(())
 }
 
+/// A console in memory without input, of which the call fails that the row tells, if any.
+fn console_of(alloc: Global, row: &str) -> Result<MemConsole, AllocError> {
+    let fails = failing(alloc, row, "fails on the console ")?;
+    Ok(MemConsole::new(alloc, Text::from_vec(Vec::new(alloc)), fails))
+}
+
+/// What comes of a row on these files and this console.
+fn told_on(
+    alloc: Global,
+    row: &str,
+    files: &mut MemFiles,
+    console: &mut MemConsole,
+) -> Result<String, AllocError> {
+    let certificates = entry(row, "brings ").replace(alloc, ";", "\n")?;
+    let mut text = String::new(alloc);
+    push_run(alloc, row, certificates.as_str(), files, console, &mut text)?;
+    Ok(text)
+}
+
 /// What comes of a row.
 pub(crate) fn told(alloc: Global, row: &str) -> Result<String, AllocError> {
     let mut files = files_of(alloc, row)?;
-    let certificates = entry(row, "brings ").replace(alloc, ";", "\n")?;
-    let fails = failing(alloc, row, "fails on the console ")?;
-    let mut console = MemConsole::new(alloc, Text::from_vec(Vec::new(alloc)), fails);
-    let mut text = String::new(alloc);
-    push_run(
-        alloc,
-        row,
-        certificates.as_str(),
-        &mut files,
-        &mut console,
-        &mut text,
-    )?;
-    Ok(text)
+    let mut console = console_of(alloc, row)?;
+    told_on(alloc, row, &mut files, &mut console)
 }

@@ -1,6 +1,5 @@
 //! Answers with their claims.
 ghost use Rattle.pg_cert.specs.Limits.{IsClaim, IsOfVersion};
-ghost use Rattle.pg_cert.specs.declared.cert.Version.TheVariants.{One};
 
 use pg_base::{Kind, Memory, Score};
 use pg_cert::{Cert, Claim, Claims, Version};
@@ -11,18 +10,36 @@ use pg_limits::{Limits, Unwatched};
 use pg_plain::{game, part};
 use std::alloc::Global;
 
-/// Whether the checker accepts the claim.
-fn is_valid(alloc: Global, g: &Game, claim: Claim) -> Result<bool, Memory>
+/// What a search may take.
+pub(crate) const LIMITS: Limits = Limits {
+    positions: 20_000,
+    entries: 400_000,
+    first_steps: 1_000,
+    steps: 60,
+};
+
+/// The word, or `refused` if the checker doesn't accept the claim.
+pub(crate) fn checked(
+    alloc: Global,
+    g: &Game,
+    version: Version,
+    claim: Claim,
+    word: &'static str,
+) -> Result<&'static str, Memory>
     requires limits { IsClaim claim }
-    requires version { IsOfVersion One claim }
+    requires version { IsOfVersion version claim }
 {
     let mut claims = Vec::new(alloc);
     claims.push(claim)?;
     let cert = Cert {
-        version: Version::One,
+        version,
         claims: Claims::from_vec(claims),
     };
-    Ok(check(alloc, g, &cert).is_ok())
+    Ok(if check(alloc, g, &cert).is_ok() {
+        word
+    } else {
+        "refused"
+    })
 }
 
 /// Whether X wins, by a claim that the checker accepts.
@@ -30,23 +47,9 @@ fn told(alloc: Global, g: &Game) -> Result<&'static str, Memory> {
     if g.kind == Kind::Switching {
         return Ok("none");
     }
-    let limits = Limits {
-        positions: 20_000,
-        entries: 400_000,
-        first_steps: 1_000,
-        steps: 60,
-    };
-    match settle(alloc, g, Score::XWins, limits, &mut Unwatched)?.answer {
-        Settled::Yes(claim) => Ok(if is_valid(alloc, g, claim)? {
-            "yes"
-        } else {
-            "refused"
-        }),
-        Settled::No(claim) => Ok(if is_valid(alloc, g, claim)? {
-            "no"
-        } else {
-            "refused"
-        }),
+    match settle(alloc, g, Score::XWins, LIMITS, &mut Unwatched)?.answer {
+        Settled::Yes(claim) => checked(alloc, g, Version::One, claim, "yes"),
+        Settled::No(claim) => checked(alloc, g, Version::One, claim, "no"),
         Settled::Unknown => Ok("unknown"),
     }
 }

@@ -1,25 +1,10 @@
 //! Private pairs for all lines of a game, asked for again and again, also through a cache: what
 //! `bench/parts.py` measures.
-ghost use Rattle.std.specs.Prelude.{◌<◌, ◌≤◌, IfSome, length};
-ghost use Rattle.std.specs.List.{All};
-ghost use Rattle.pg_base.specs.declared.limits.TheConstants.{MAX_MEMBERS};
-ghost use Rattle.pg_game.specs.declared.bounds.TheConstants.{MAX_LINES};
-
-use pg_base::{Lines, Memory};
-use pg_game::{Field, Game};
+use crate::matching::lines_of;
+use pg_base::Memory;
+use pg_game::Game;
 use pg_match::{Matching, PairCache, lines_without, private_pairs};
 use std::alloc::{AllocError, Global};
-
-/// The lines of a game on lines.
-fn lines_of(g: &Game) -> Option<&Lines>
-    ensures few { IfSome result (λ lines. length lines.now ≤ MAX_LINES) }
-    ensures range { IfSome result (λ lines. All (All (λ v. v < MAX_MEMBERS)) lines.now) }
-{
-    match &g.field {
-        Field::Lines(field) => Some(&field.lines),
-        Field::Graph(_) => None,
-    }
-}
 
 /// How many pairs the last of so many asks gives; 0 where lines are short.
 fn asked(alloc: Global, g: &Game, asks: u32) -> Result<usize, Memory> {

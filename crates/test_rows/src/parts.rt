@@ -1,26 +1,20 @@
-//! What the scripts under `bench/` measure of boards, threat lines and private pairs. The first of
-//! its words names the part, the second a file with a game, and the others say what is done;
-//! without words it does small rows of each part.
-#![tactic(auto)]
-
-mod boards;
-mod matching;
-mod threats;
-
+//! Parts of a search, which `bench/parts.py` measures: boards, threat lines and private pairs. A
+//! row names the part, then a file with a game, and then says what is done.
+use crate::{asking, boards, threats};
 use pg_game::Game;
 use pg_plain::game;
 use std::alloc::{AllocError, Global};
 use std::{env, fs, io};
 
-/// Rows of each part, separated by `;`.
-const ROWS: &str = "\
+/// Small rows of each part, separated by `;`.
+pub(crate) const ROWS: &str = "\
 board lines-of-ten.txt 1;\
 threat five-in-a-row.txt still ask;\
 match two-lines.txt 2;\
 match two-lines.txt 3 cached";
 
 /// The words of the command line, with a space between each two.
-fn row(rt: &HostRuntime) -> io::Result<String> {
+pub(crate) fn row(rt: &HostRuntime) -> io::Result<String> {
     let mut row = String::new(rt.alloc());
     for word in env::args(rt)?.skip(1) {
         if !row.is_empty() {
@@ -42,7 +36,7 @@ fn told_of(alloc: Global, g: &Game, part: &str, words: &str) -> Result<String, A
     match part {
         "board" => boards::told(alloc, g, first),
         "threat" => threats::told(alloc, g, first, second),
-        "match" => matching::told(alloc, g, first, second),
+        "match" => asking::told(alloc, g, first, second),
         _ => String::from_str(alloc, "no such part"),
     }
 }
@@ -62,15 +56,10 @@ fn told(rt: &HostRuntime, row: &str) -> io::Result<String> {
 }
 
 /// Says what each row tells.
-fn tell(rt: &HostRuntime, rows: &str) -> io::Result<()> {
+pub(crate) fn tell(rt: &HostRuntime, rows: &str) -> io::Result<()> {
     for row in rows.split(';') {
         let text = told(rt, row)?;
         rt.println(text.as_str())?;
     }
     Ok(())
-}
-
-fn main(rt: HostRuntime) -> io::Result<()> {
-    let row = row(&rt)?;
-    tell(&rt, if row.is_empty() { ROWS } else { row.as_str() })
 }

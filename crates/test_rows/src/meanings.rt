@@ -1,4 +1,4 @@
-//! What words mean, as text.
+//! What the words of a command line mean, as text.
 use pg_words::{Command, Family, FamilyTask, Source, meaning};
 use std::alloc::{AllocError, Global};
 
@@ -121,7 +121,7 @@ fn command_text(alloc: Global, command: &Command) -> Result<String, AllocError> 
 }
 
 /// What the words of a row mean; `none` where they have no meaning.
-pub(crate) fn told(alloc: Global, row: &str) -> Result<String, AllocError> {
+fn told(alloc: Global, row: &str) -> Result<String, AllocError> {
     let words = words(alloc, row)?;
     let Ok(meaning) = meaning(alloc, &words) else {
         return String::from_str(alloc, "memory");
@@ -130,4 +130,11 @@ pub(crate) fn told(alloc: Global, row: &str) -> Result<String, AllocError> {
         None => String::from_str(alloc, "none"),
         Some(command) => command_text(alloc, &command),
     }
+}
+
+/// Whether the words of the row mean what it says; None where the row can't be read, or no memory
+/// is found.
+pub(crate) fn is_so(alloc: Global, row: &str) -> Option<bool> {
+    let (words, due) = row.split_once("=> ")?;
+    Some(told(alloc, words).ok()?.as_str() == due)
 }

@@ -1,5 +1,5 @@
 use Rattle.std.proofs.Common.{◌≡◌}
-use Rattle.bench_parts.proofs.threats.stand_still.Given as goal
+use Rattle.test_rows.proofs.threats.stand_still.Given as goal
 
 abbrev pub invariant-loop : goal.invariant-loop
 invariant-loop l = l.b.game ≡ l.g
