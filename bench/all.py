@@ -5,7 +5,7 @@ seconds and memory, with the limits.
     bench/all.py [--only WORD].. [--long] [--out FILE]
 
 The programs are those that `rt ci` or `rt run` left in crates/NAME/out, for posgame, posgame_draw,
-posgame_settle and bench_parts. A bench whose program is missing, that fails or takes too long is a
+posgame_settle and test_rows. A bench whose program is missing, that fails or takes too long is a
 line of its own. It takes an hour, on a quiet machine; `--long` also gives posgame 20,000 mutated
 files and arguments and kills it 200 times. Unproved.
 """
@@ -50,6 +50,11 @@ BENCHES = {
     "Games against a search": "computer.py",
     "Files, names and consoles of the system that fail, and kills": "real_files.py",
     "Mutated files, words and dialogues": "fuzz.py --runs 20000",
+    **{f"Mutated inputs of the part `{part}`": f"fuzz.py --part {part} --runs 3000"
+       for part in ("settle", "draw", "play", "python", "page")},
+    "The worst inputs that are known":
+        f"worst.py --draw {kit.built('posgame_draw')} --settle {kit.built('posgame_settle')} "
+        f"--play {kit.built('posgame_play')}",
     "Each allocation of 22 runs refused in turn": "memory.py",
     "Certificates that reviews check": "checked.py",
 }

@@ -1,129 +1,59 @@
 #!/usr/bin/env python3
-"""Gives posgame mutated game files, certificates, arguments and dialogues, and looks for answers
-that none may give.
+"""Gives the programs, the Python package and the page mutated files, arguments and dialogues, and
+looks for answers that none may give.
 
-    bench/fuzz.py [PROGRAM] [--runs N] [--seed N] [--first N]
+    bench/fuzz.py [PROGRAM] [--part PART] [--settle PROGRAM] [--draw PROGRAM] [--play PROGRAM]
+                  [--runs N] [--seed N] [--first N] [--slower X] [--keep FOLDER] [--pairs FILE]
 
-Each case is drawn from the seed and its number alone, and is one to four runs of the program in a
-folder of its own: files are made from those of examples/ and from what the program solves of them,
-by changes of bytes, words (of bench/fuzz.txt), numbers and lines. It looks for
+PROGRAM is posgame. A part is `posgame` (if left out), `settle`, `draw` or `play` for the other
+programs, `python` for the Python package, or `page` for what of the page runs in node. Each case is
+drawn from the part, the seed and its number alone, and is one or some runs of programs in a folder
+of its own: files are made from those of examples/ and from what the programs make of them, by
+changes of bytes, words (of bench/fuzz.txt), numbers and lines. It looks for
 
 - an end by a signal, a status that the command can't have there, and a text that it doesn't have;
-- anything on standard error, more than two processor seconds, or thirty by the clock, or 200 MB;
+- anything on standard error that isn't the program's to say, more than two processor seconds, or
+  thirty by the clock (times --slower), or 200 MB;
 - a file that was changed and isn't what the command writes, or at a status that leaves it;
 - arguments that have a meaning and are refused, or the other way round, by a reading of its own;
-- check, report and play that answer otherwise on the same files, and a certificate that is stored
-  and not accepted.
+- commands, programs, the second checker, and readers of its own (small_files.py) that answer
+  otherwise on the same files; a certificate or a record that is stored and refused then;
+- a picture that isn't XML, an error that isn't the package's own, words of the page that lack what
+  they say.
 
 What it finds is printed with the number of its case: `--seed S --first K --runs 1` repeats that
-case and shows its files. The status is 1 if it finds something. Unproved.
+case and shows its files; --keep stores them in a folder of the case's number. A line on standard
+error says from time to time which case comes next, from which a run can be gone on with (--first).
+The pairs of files that are mutated are the same to the byte in each run; with --pairs they are
+stored in a file, or taken from it, which saves some seconds. The status is 1 if it finds something.
+Tried by `bench/test_fuzz.py`. Unproved.
 """
 from __future__ import annotations
 
 import collections
-import getopt
+import json
 import os
 import pathlib
 import random
 import re
-import shutil
-from typing import Any, Optional
+import sys
+from typing import Any, Callable, NamedTuple, Optional
 
 import kit
+from mutants import (FAMILY_KEYS, FAMILY_SIGNS, FURTHER, KEYS, NAMES, NUMBERS, SIGNS, WORDS, Draw,
+                     Pairs, Program, held, mutated, record_of, typed_lines, write, wrongs)
+from small_files import game_of, record_fault, verdict_of
 
-Draw = random.Random
-# Games and certificates by their family: `span`, `vec`, or none.
-Pairs = dict[str, list[tuple[bytes, bytes]]]
+sys.path.insert(0, str(kit.TOP / "python" / "tests"))
 
-SECONDS, BY_THE_CLOCK, MEGABYTES = 2, 30, 200
-# Words that are put into files and arguments, and patterns: their parts with names, words that have
-# a meaning, and what the commands may print at each status.
-*LISTS, SHARED, MEANINGS, DUES = kit.stanzas("fuzz.txt")
-KEYS, SIGNS, FAMILY_KEYS, FAMILY_SIGNS, NUMBERS, NAMES, WORDS = (
-    " ".join(it).split() for it in LISTS)
-PATTERNS = dict(it.split(" ", 1) for it in SHARED)
-NAMES += ["", "no folder/new", "x" * 300]
+import beside  # noqa: E402
+
 COMMANDS = ["solve G C", "check G C", "play G C --side x", "report G C", "gen rows 3 O",
             "gen bridge 2 O C", "gen scatter 1 5 2 2 O", "span solve G C", "vec check G C",
-            "span play G C --side x", ""]
-TYPED = ["", " 3\t", "x", "00", "9" * 70, "-1", "3 4", "\0", "ä", "1" * 64]
-
-
-def whole(pattern: str) -> str:
-    """The pattern with its named parts in place of their names."""
-    for name in reversed(PATTERNS):
-        pattern = pattern.replace(name, f"({PATTERNS[name]})")
-    return pattern
-
-
-def due(command: str, status: int) -> Optional[str]:
-    """The pattern of what a command may print at a status, or None if it can't have that."""
-    texts = [text.strip() for commands, statuses, text in (it.split(":", 2) for it in DUES)
-             if re.fullmatch(commands, command) and re.fullmatch(statuses, f" {status}")]
-    return whole("|".join(texts)) if texts else None
-
-
-class Program:
-    """The program and its runs in one folder, which has the files of the case that is tried."""
-
-    def __init__(self, path: str, folder: pathlib.Path) -> None:
-        self.path, self.folder = path, folder
-        self.runs: list[kit.Run] = []
-
-    def run(self, words: list[str], typed: bytes = b"") -> kit.Run:
-        """Runs the program."""
-        self.runs.append(kit.run(self.path, *words, typed=typed, folder=self.folder,
-                                 most=SECONDS + 1, clock=BY_THE_CLOCK))
-        return self.runs[-1]
-
-
-def held(folder: pathlib.Path) -> dict[str, Optional[bytes]]:
-    """What each name in the folder holds."""
-    return {str(it.relative_to(folder)): it.read_bytes() if it.is_file() else None
-            for it in folder.rglob("*")}
-
-
-def meaning(words: list[str]) -> tuple[str, list[str]]:
-    """The command and what it writes; nothing if the words have no meaning. (None of those drawn
-    is an option cut short, which getopt would take.)"""
-    try:
-        options, others = getopt.gnu_getopt(words, "", ["positions=", "side="])
-    except getopt.GetoptError:
-        return "", []
-    text = "\n".join(others) + "".join(f"\0{'='.join(it)}" for it in options)
-    rows = (whole(it).replace(" --", "\0--").replace(" ", "\n").split(":\n") for it in MEANINGS)
-    counts = [int(count) for count, pattern in rows if re.fullmatch(pattern, text)]
-    is_scattered = counts and others[:2] == ["gen", "scatter"]
-    seed, points, lines, size = map(int, others[2:6] if is_scattered else "0101")
-    if (not counts or seed >= 2**31 or not 1 <= size <= points <= 256 or size > 100
-            or lines > 20_000 or lines * size > 400_000):
-        return "", []
-    command = " ".join(others[: 2 if others[0] in kit.FAMILIES else 1])
-    return command, others[len(others) - counts[0]:]
-
-
-def wrongs(program: Program, words: list[str], typed: bytes = b"") -> tuple[list[str], int, str]:
-    """Runs the program; what is wrong with the run, with its status and what it said."""
-    before, (command, writes) = held(program.folder), meaning(words)
-    run = program.run(words, typed)
-    after, status, said = held(program.folder), run.status, run.output
-    pattern = due(command, status)
-    faults = {
-        f"signal {-status} after {run.processor:.2f} s": status < 0,
-        f"status {status}": status >= 0 and pattern is None,
-        f"status {status} with {said[:200]!r}":
-            pattern is not None and not re.fullmatch(pattern, said),
-        "status 9 without a refusal at its end":
-            status == 9 and not re.search(rf"({PATTERNS['REFUSED']})\Z", said),
-        f"{run.processor:.2f} s of a processor": run.processor > SECONDS,
-        f"standard error {run.errors[:200]!r}": run.errors,
-        f"{run.megabytes} MB": run.megabytes > MEGABYTES,
-    }
-    keeps = status in (2, 3, 4) or status == 1 and command == "solve"
-    may_change = set() if keeps else {os.path.normpath(name) for name in writes}
-    changed = [f"{name} changed" for name in sorted(before.keys() | after.keys())
-               if before.get(name, 0) != after.get(name, 0) and name not in may_change]
-    return [text for text, is_wrong in faults.items() if is_wrong] + changed, status, said
+            "span play G C --side x", "record G O", "review G C", "solve G C --images", ""]
+# Games on lines that are solved for their certificates have at most so many points.
+SOLVED = 16
+PARTS = "posgame", "settle", "draw", "play", "python", "page"
 
 
 def stored(program: Program, names: list[str], words: list[str], family: str = "") -> list[str]:
@@ -133,94 +63,6 @@ def stored(program: Program, names: list[str], words: list[str], family: str = "
         wrong, checked, said = wrongs(program, [*family.split(), "check", *names])
         found += wrong + ([f"stored, and then {said!r}"] if checked else [])
     return found
-
-
-def cut(draw: Draw, data: bytes, _: list[str]) -> bytes:
-    """A part from the start."""
-    return data[: draw.randrange(len(data) + 1)]
-
-
-def one_byte(draw: Draw, data: bytes, _: list[str]) -> bytes:
-    """One byte put in, or in place of another."""
-    place = draw.randrange(len(data) + 1)
-    byte = bytes([draw.choice((draw.randrange(256), 32, 10, 13, 0, 124, 48, 45))])
-    return data[:place] + byte + data[place + draw.randrange(2) :]
-
-
-def lines_moved(draw: Draw, data: bytes, _: list[str]) -> bytes:
-    """A line dropped, repeated or exchanged, or some lines repeated."""
-    lines = data.split(b"\n")
-    first, second = draw.randrange(len(lines)), draw.randrange(len(lines))
-    how = draw.randrange(4)
-    if how == 0:
-        del lines[first]
-    elif how == 1:
-        lines.insert(second, lines[first])
-    elif how == 2:
-        lines[first], lines[second] = lines[second], lines[first]
-    else:
-        part = lines[min(first, second) : max(first, second) + 1]
-        lines[first:first] = part * draw.choice((1, 2, 9, 50))
-    return b"\n".join(lines)
-
-
-def words_changed(draw: Draw, data: bytes, pool: list[str]) -> bytes:
-    """One word changed."""
-    parts = re.split(rb"([ \n|:-])", data)
-    place, how = draw.randrange(len(parts)), draw.randrange(4)
-    if how == 0 and parts[place].isdigit():
-        parts[place] = b"%d" % max(0, int(parts[place]) + draw.choice((-1, 1, 1, 7, 100)))
-    else:
-        parts[place] = draw.choice(parts) if how == 1 else draw.choice(pool + NUMBERS).encode()
-    return b"".join(parts)
-
-
-def numbers_changed(draw: Draw, data: bytes, _: list[str]) -> bytes:
-    """One number a little higher or lower: what is most often still a file in form."""
-    parts = re.split(rb"(\d+)", data)
-    if len(parts) > 1:
-        place = draw.randrange(1, len(parts), 2)
-        parts[place] = b"%d" % max(0, int(parts[place]) + draw.choice((-1, 1)))
-    return b"".join(parts)
-
-
-def long_file(draw: Draw, data: bytes, _: list[str]) -> bytes:
-    """A line repeated many times."""
-    part = draw.choice(data.split(b"\n")) + draw.choice((b"\n", b" ", b""))
-    most = 2_000_000 // (len(part) + 1)
-    return data + b"\n" + part * min(draw.choice((300, 3_000, 30_000)), most)
-
-
-# Each change, and how often of a hundred it is drawn.
-CHANGES = {numbers_changed: 40, words_changed: 20, lines_moved: 18, one_byte: 14, cut: 7,
-           long_file: 1}
-
-
-def mutated(draw: Draw, data: bytes, pool: list[str]) -> bytes:
-    """Some changes one after the other."""
-    for _ in range(draw.choice((0, 1, 1, 1, 2, 3, 8))):
-        # A long file stays as long as it is.
-        changes = CHANGES if len(data) < 200_000 else {one_byte: 14, cut: 7}
-        data = draw.choices(*zip(*changes.items()))[0](draw, data, pool)
-    return data
-
-
-def typed_lines(draw: Draw) -> bytes:
-    """Replies, most of them numbers of points."""
-    line = lambda: draw.choice((str(draw.randrange(12)), str(draw.randrange(30)), *TYPED))
-    count = draw.choice((0, 3, 12, 40, 150))
-    text = "".join(line() + draw.choice(("\n", "\n", "\n", "\r\n")) for _ in range(count))
-    return text.encode() + draw.choice((b"", b"7", b"\xff\xfe", b"1" * 8_000))
-
-
-def write(folder: pathlib.Path, **files: bytes) -> None:
-    """Leaves these files alone in the folder, with another and an empty folder."""
-    shutil.rmtree(folder / "folder", ignore_errors=True)
-    for path in folder.iterdir():
-        path.unlink()
-    (folder / "folder").mkdir()
-    for name, data in {"O": b"other", **files}.items():
-        (folder / name).write_bytes(data)
 
 
 def disagreements(ends: dict[str, tuple[int, str]]) -> list[str]:
@@ -233,7 +75,8 @@ def disagreements(ends: dict[str, tuple[int, str]]) -> list[str]:
     if checked != 0 and (reported, played, log) != (checked, checked, text):
         found.append(f"refused by {checked}, but {reported}, {played}")
     if "report" in ends and text.startswith("rejected"):
-        shown = [re.findall(rf'"{it}":"?J?(\d+)', report)[:1] for it in ("reject", "claim", "node")]
+        shown = [re.findall(rf'"{it}":"?[JI]?(\d+)', report)[:1]
+                 for it in ("reject", "claim", "node")]
         if [[it] for it in re.findall(r"\d+", text)] != shown:
             found.append(f"{text!r}, but {report!r}")
     return found
@@ -242,6 +85,8 @@ def disagreements(ends: dict[str, tuple[int, str]]) -> list[str]:
 def certificate_case(draw: Draw, program: Program, pairs: Pairs, family: str = "") -> list[str]:
     """Check, report and play of one pair of files, which must agree."""
     game, certificate = draw.choice(pairs[family])
+    if draw.randrange(8) == 0:
+        certificate = draw.choice(pairs[family])[1]
     keys, signs = (FAMILY_KEYS, FAMILY_SIGNS) if family else (KEYS, SIGNS)
     if draw.randrange(3 if family else 4) == 0:
         game = mutated(draw, game, keys)
@@ -252,6 +97,9 @@ def certificate_case(draw: Draw, program: Program, pairs: Pairs, family: str = "
         typed = typed_lines(draw) if command == "play" else b""
         wrong, *ends[command] = wrongs(program, [*family.split(), command, "G", "C", *side], typed)
         found += [f"{command}: {it}" for it in wrong]
+    verdict = verdict_of(*((program.folder / it).read_bytes() for it in "GC"), family)
+    if ends["check"][1] != f"{verdict}\n":
+        found.append(f"{ends['check'][1]!r}, but the second checker says {verdict!r}")
     return found + disagreements(ends)
 
 
@@ -267,7 +115,8 @@ def solve_case(draw: Draw, program: Program, pairs: Pairs) -> list[str]:
     game = mutated(draw, draw.choice(pairs[""])[0], KEYS)
     write(program.folder, G=game, C=b"old")
     words = ["solve", "G", "C", "--positions", str(draw.choice((1, 2, 10, 100, 1_000)))]
-    return stored(program, ["G", "C"], words if draw.randrange(3) else words[:3])
+    words = words if draw.randrange(3) or program.slower > 1 else words[:3]
+    return stored(program, ["G", "C"], words + draw.choice(([], [], ["--images"])))
 
 
 def gen_case(draw: Draw, program: Program, _: Pairs) -> list[str]:
@@ -294,52 +143,169 @@ def words_case(draw: Draw, program: Program, pairs: Pairs) -> list[str]:
     return [f"{words[:12]}: {it}" for it in found]
 
 
-CASES = [certificate_case] * 6 + [solve_case, gen_case] + [words_case, family_case] * 2
+def record_case(draw: Draw, program: Program, pairs: Pairs) -> list[str]:
+    """A session that is recorded, and the record by a reading of its own and by a review."""
+    game = draw.choice(pairs[""])[0]
+    if draw.randrange(3) == 0:
+        game = mutated(draw, game, KEYS)
+    write(program.folder, G=game, C=b"old")
+    words = [b"back", b"end", b"back "] if draw.randrange(2) else [b"back"]
+    typed = b"\n".join(draw.choice(words) if draw.randrange(6) == 0 else line
+                       for line in typed_lines(draw).split(b"\n"))
+    found, status, said = wrongs(program, ["record", "G", "C"], typed)
+    known, data = game_of(game), (program.folder / "C").read_bytes()
+    if (known is None) != (status == 3):
+        found.append(f"record: status {status}, but the second checker reads otherwise")
+    if status == 0 and known:
+        found += [f"stored, and then {it}" for it in [record_fault(known, data)] if it]
+        moves = data.count(b"\nmove") - data.count(b"\nback")
+        found += [] if said.endswith(f"recorded {moves}\n") else [f"{moves} moves, but {said!r}"]
+    return found
+
+
+def review_case(draw: Draw, program: Program, pairs: Pairs) -> list[str]:
+    """A mutated record that is reviewed; its fault must be that of a reading of its own."""
+    game = draw.choice(pairs[""])[0]
+    if draw.randrange(4) == 0:
+        game = mutated(draw, game, KEYS)
+    known = game_of(game)
+    record = mutated(draw, record_of(draw, known.points if known else 5), FURTHER)
+    write(program.folder, G=game, C=record)
+    found, status, said = wrongs(
+        program, ["review", "G", "C", "--positions", str(draw.choice((1, 3, 20)))])
+    if (known is None or known.bias > 1) != (status == 3):
+        found.append(f"review: status {status}, but the second checker reads otherwise")
+    fault = record_fault(known, record) if known and known.bias == 1 else ""
+    if (status == 10) != bool(fault) or fault and said != f"{fault}\n":
+        found.append(f"{said!r}, not {fault!r}")
+    return found
+
+
+CASES: list[Callable[..., list[str]]] = \
+    [certificate_case] * 6 + [solve_case, gen_case, record_case, review_case] \
+    + [words_case, family_case] * 2
 
 
 def pairs_of_examples(program: Program) -> Pairs:
-    """By family, the games of examples/ with each certificate there that is valid or rejected for
-    them, and with what the program solves of them."""
-    games, certificates = ([path.read_bytes() for path in sorted(kit.EXAMPLES.glob(it))]
-                           for it in ("*.game", "*.cert"))
-    accepted, rejected = collections.defaultdict(list), collections.defaultdict(list)
-    for game in games:
-        family = "".join(kit.family_of(game.decode()))
+    """By family, the games of examples/ with each certificate there that is meant for them, whether
+    it is valid or not, and the smaller ones with what the program solves of them, with images
+    too."""
+    found = collections.defaultdict(list)
+    for it in beside.example_pairs():
+        found["".join(kit.family_of(it.game.decode()))].append((it.game, it.certificate))
+    for path in sorted(kit.EXAMPLES.glob("*.game")):
+        game = path.read_bytes()
+        family, known = "".join(kit.family_of(game.decode())), game_of(game)
+        limits = [] if family else ["--positions", "30"]
+        flags = [] if known and known.points > SOLVED else [limits]
+        flags += [[*limits, "--images"]] if flags and known and known.grid != (0, 0) else []
         write(program.folder, G=game)
-        if program.run([*family.split(), "solve", "G", "S"]).status == 0:
-            accepted[family].append((game, (program.folder / "S").read_bytes()))
-        for certificate in certificates:
-            (program.folder / "C").write_bytes(certificate)
-            done = program.run([*family.split(), "check", "G", "C"])
-            if done.status == 0:
-                accepted[family].append((game, certificate))
-            elif re.match("rejected (?!J(11|12|2 ))", done.output):
-                rejected[family].append((game, certificate))
-    return {family: pairs * 6 + rejected[family] for family, pairs in accepted.items()}
+        for flag in flags:
+            if program.run([*family.split(), "solve", "G", "S", *flag]).status == 0:
+                found[family].append((game, (program.folder / "S").read_bytes()))
+    return {family: sorted(set(pairs)) for family, pairs in found.items()}
+
+
+def kept_pairs(program: Program, name: Optional[str]) -> Pairs:
+    """The pairs of the examples; if a file is named, those that it has, or that it has then."""
+    path = pathlib.Path(name) if name else None
+    if not path or not path.exists():
+        found = pairs_of_examples(program)
+        shown = {family: [[it.decode("latin-1") for it in pair] for pair in pairs]
+                 for family, pairs in found.items()}
+        if path:
+            path.write_text(json.dumps(shown), encoding="ascii")
+        return found
+    return {family: [(game.encode("latin-1"), certificate.encode("latin-1"))
+                     for game, certificate in pairs]
+            for family, pairs in json.loads(path.read_text(encoding="ascii")).items()}
+
+
+class Tools(NamedTuple):
+    """The programs, which share one folder."""
+
+    posgame: Program
+    settle: Program
+    draw: Program
+    play: Program
+
+    @property
+    def runs(self) -> list[kit.Run]:
+        """All runs."""
+        return [run for it in self for run in it.runs]
+
+
+def cases_of(part: str) -> tuple[list[Callable[..., list[str]]], bool]:
+    """The cases of a part, and whether they take all programs and not posgame alone."""
+    if part == "posgame":
+        return CASES, False
+    if part in ("python", "page"):
+        import fuzz_readers
+        return fuzz_readers.CASES[part], True
+    import fuzz_programs
+    return fuzz_programs.CASES[part], True
+
+
+def keep(folder: pathlib.Path, held_there: dict[str, Any], found: list[str]) -> None:
+    """Stores the files of a case, and what was found."""
+    folder.mkdir(parents=True, exist_ok=True)
+    for name, data in held_there.items():
+        if data is not None:
+            (folder / ascii(name.replace("/", "__"))[1:-1]).write_bytes(data)
+    (folder / "found.txt").write_text("\n".join(found), encoding="utf-8", errors="replace")
+
+
+def run_cases(given: Any, tools: Tools) -> tuple[list[str], int]:
+    """Runs the cases; returns what is wrong, and the number of the case that would be next."""
+    cases, takes_all = cases_of(given.part)
+    pairs = kept_pairs(tools.posgame, given.pairs)
+    wrong, number, begun = list[str](), given.first, len(tools.runs)
+    while len(tools.runs) - begun < given.runs:
+        prefix = "" if given.part == "posgame" else f"{given.part} "
+        draw = random.Random(f"{prefix}{given.seed} {number}")
+        case: Any = draw.choice(cases)
+        found = case(draw, tools if takes_all else tools.posgame, pairs)
+        again = f"repeat with --part {given.part} --seed {given.seed} --first {number} --runs 1"
+        new = [f"{case.__name__} {number}: {it}; {again}" for it in found]
+        print(*new, sep="\n", end="\n" if new else "", file=sys.stderr, flush=True)
+        wrong += new
+        files = held(tools.posgame.folder)
+        if found and given.keep:
+            keep(pathlib.Path(given.keep, f"{given.part}-{given.seed}-{number}"), files, found)
+        for name, data in sorted(files.items()) if found and given.runs == 1 else ():
+            part = data[:2_000] + b".." if data and len(data) >= 2_000 else data
+            print(f"{name}: {part!r}")
+        number += 1
+        if number % 20 == 0:
+            print(f"{given.part}, seed {given.seed}: {len(tools.runs) - begun} runs, next case "
+                  f"{number}, {len(wrong)} findings", file=sys.stderr, flush=True)
+    return wrong, number
 
 
 def main() -> int:
-    given = kit.options(__doc__, runs=(20_000, "so many runs, or a few more"), seed=1,
-                        first=(0, "the number of the first case"))
-    wrong, number = [], given.first  # type: list[str], int
+    given = kit.options(
+        __doc__, runs=(20_000, "so many runs, or a few more"), seed=1,
+        part=("posgame", ", ".join(PARTS)), keep=(None, "where files of findings are stored"),
+        first=(0, "the number of the first case"),
+        pairs=(None, "where the pairs of the examples are kept from run to run"),
+        slower=(1.0, "how many times as slow the machine or the program is"),
+        **{it: (str(kit.built(f"posgame_{it}")), f"the program posgame-{it}")
+           for it in ("settle", "draw", "play")})
+    os.environ["POSGAME"] = given.program
+    os.environ.pop("COLUMNS", None)
     with kit.files() as folder:
-        program = Program(given.program, folder)
-        pairs, runs = pairs_of_examples(program), program.runs
-        begun = len(runs)
-        while len(runs) - begun < given.runs:
-            draw = random.Random(f"{given.seed} {number}")
-            case: Any = draw.choice(CASES)
-            found = case(draw, program, pairs)
-            again = f"repeat with --seed {given.seed} --first {number} --runs 1"
-            wrong += [f"{case.__name__} {number}: {it}; {again}" for it in found]
-            for name, data in sorted(held(folder).items()) if found and given.runs == 1 else ():
-                part = data[:2_000] + b".." if data and len(data) >= 2_000 else data
-                print(f"{name}: {part!r}")
-            number += 1
+        tools = Tools(*(Program(os.path.abspath(path), folder, name, given.slower)
+                        for path, name in ((given.program, "posgame"),
+                                           (given.settle, "posgame-settle"),
+                                           (given.draw, "posgame-draw"),
+                                           (given.play, "posgame-play"))))
+        wrong, number = run_cases(given, tools)
+    runs = tools.runs
     statuses = sorted(collections.Counter(it.status for it in runs).items())
     table = kit.Table("what", "number")
-    for row in (("runs", len(runs) - begun), ("cases", number - given.first),
-                ("findings", len(wrong)), ("greatest memory, MB", max(it.megabytes for it in runs)),
+    for row in (("part", given.part), ("runs", len(runs)), ("cases", number - given.first),
+                ("the next case", number), ("findings", len(wrong)),
+                ("greatest memory, MB", max(it.megabytes for it in runs)),
                 ("longest run, s of a processor", f"{max(it.processor for it in runs):.2f}"),
                 *((f"runs ended with status {status}", many) for status, many in statuses)):
         table.row(*row)

@@ -321,6 +321,17 @@ def files(**texts: str) -> Iterator[pathlib.Path]:
         yield pathlib.Path(name)
 
 
+@contextlib.contextmanager
+def inside(folder: pathlib.Path) -> Iterator[None]:
+    """Makes a folder the one of this process for a while."""
+    before = os.getcwd()
+    os.chdir(folder)
+    try:
+        yield
+    finally:
+        os.chdir(before)
+
+
 def data(name: str, folder: str = "bench") -> str:
     """Returns the text of a file of a folder without comments, lines that go on being joined."""
     text = (TOP / folder / name).read_text(encoding="utf-8").replace("\\\n    ", "")

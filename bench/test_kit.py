@@ -117,6 +117,12 @@ class Runs(unittest.TestCase):
         self.assertEqual(done.output, "22\n\n")
         self.assertFalse(folder.exists())
 
+    def test_inside(self) -> None:
+        before = os.getcwd()
+        with kit.files(one="1\n") as folder, kit.inside(folder):
+            self.assertEqual(pathlib.Path("one").read_text(encoding="ascii"), "1\n")
+        self.assertEqual(os.getcwd(), before)
+
     def test_accepted(self) -> None:
         for text, is_accepted in (("accepted x y win\naccepted y y win\n", True), ("", False),
                                   ("accepted x y win\nrejected J1 claim 1 node 0\n", False)):

@@ -2,13 +2,20 @@
 """Runs the programs on the worst small inputs that are known, within the limits of the formats, and
 measures each run on one processor: processor seconds and greatest memory, each with its limit.
 
-    bench/worst.py [PROGRAM] [--draw PROGRAM] [--keep FOLDER] [--rows LETTERS] [--slower X]
+    bench/worst.py [PROGRAM] [--draw PROGRAM] [--settle PROGRAM] [--play PROGRAM] [--keep FOLDER]
+                   [--rows LETTERS] [--slower X] [--growth N] [--clock]
 
-Each row has a letter; letters choose some rows, and --draw names posgame-draw. The files of a row
-are made by a function of this script in a temporary folder, or in FOLDER, where they stay. A run is
-ended at four times its limit of seconds. The limits of seconds are for one machine, as those of
-bench/first_minutes.py are; on one that is X times as slow they are X times as high. The status is 1
-if a row is above a limit or ends with another status than expected. Unproved.
+Each row has a letter; letters choose some rows, and the options name the programs posgame-draw and
+so on, whose rows are left out otherwise. The files of a row are made by a function of this script
+in a temporary folder, or in FOLDER, where they stay. A run is ended at four times its limit of
+seconds. The limits of seconds are for one machine, as those of bench/first_minutes.py are; on one
+that is X times as slow they are X times as high. The status is 1 if a row is above a limit or ends
+with another status than expected.
+
+With --growth callgrind counts the instructions of a row at 1/(2 N) and at 1/N of its size instead,
+if its files can be made smaller; with 0 for the size nothing at all. What comes on top of a run on
+almost nothing should be twice as much at twice the size; a factor above 3 is wrong. With --clock
+the counts are microseconds of the processor, for programs that callgrind can't run. Unproved.
 """
 from __future__ import annotations
 
@@ -28,15 +35,17 @@ Texts = dict[str, str]
 
 
 class Row(NamedTuple):
-    """A run: its arguments, the function that makes its files, and its limits."""
+    """A run: its arguments, the function that makes its files, and its limits. What is typed is the
+    text INPUT. A function that can make smaller files takes the part of the size that is due."""
 
     letter: str
     what: str
     words: str
-    make: Callable[[], Texts]
+    make: Callable[..., Texts]
     seconds: float
     megabytes: int
     statuses: tuple[int, ...] = (0,)
+    program: str = "posgame"
 
 
 def game(lines: Iterable[Iterable[int]], kind: str = "maker-breaker", turn: str = "x") -> str:
@@ -155,6 +164,128 @@ def turned_pairs() -> Texts:
             "CERT": kit.certificate(kit.claim("x y win", "\n".join(nodes)), version=3)}
 
 
+def part_of(most: int, share: float) -> int:
+    """Returns a part of a size, at least 2."""
+    return max(2, round(most * share))
+
+
+def session(share: float = 1) -> Texts:
+    """Makes a game whose lines all have the first point, and 10,000 events: this point is claimed
+    and taken back."""
+    lines = [(0, 1 + i % 255) for i in range(part_of(MOST_LINES, share))]
+    return {"GAME": game(lines), "INPUT": "0\nback\n" * 5_000}
+
+
+def graph_moves(share: float = 1) -> Texts:
+    """Makes a switching game of two vertices that matter and a doubled path of others, with a
+    record of moves on the path."""
+    edges = part_of(990, share)
+    path = [(2 + i // 2, 3 + i // 2) for i in range(edges)]
+    moves = [f"move {v}" for v in range(edges)]
+    graph = edges // 2 + 4, [*path, (0, 1), (0, 1), (0, 1)]
+    return {"GAME": kit.switching(graph),
+            "GAME.record": "\n".join(["posgame-record 1", *moves, ""])}
+
+
+def weights(share: float = 1) -> Texts:
+    """Makes a game of long lines that a potential proves, and replies to play against it."""
+    lines = kit.scatter(7, POINTS, part_of(4_000, share), 60)
+    claim = kit.claim("x y win", "||x|potential\n")
+    return {"GAME": game(lines), "CERT": kit.certificate(claim),
+            "INPUT": kit.field(range(POINTS)).replace(" ", "\n")}
+
+
+def weights_undone(share: float = 1) -> Texts:
+    """Makes a game that a potential proves, with replies of which the last is taken back again and
+    again."""
+    lines = kit.scatter(7, POINTS, 400, 60)
+    claim = kit.claim("x y win", "||x|potential\n")
+    replies, undone = part_of(100, share), part_of(4_000, share)
+    typed = [*map(str, range(replies)), *["undo", str(replies - 1)] * undone, "quit", ""]
+    return {"GAME": game(lines), "CERT": kit.certificate(claim), "INPUT": "\n".join(typed)}
+
+
+def parts(share: float = 1) -> Texts:
+    """Makes a certificate of a connectivity game with as many parts as there may be."""
+    words = part_of(2_090_000, share)
+    text = f"posgame-span-cert 1\nclaim x y\nparts{' 0' * words}\n"
+    return {"GAME": kit.span(kit.doubled_path(500, 1_000)), "CERT": text}
+
+
+def forests(share: float = 1) -> Texts:
+    """Makes a connectivity game on many vertices and edges, drawn."""
+    edges = part_of(1_000, share)
+    return {"GAME": kit.span(kit.scattered(3, max(edges // 2, 2), edges, True))}
+
+
+def vectors(share: float = 1) -> Texts:
+    """Makes a game on vectors of 128 entries, drawn."""
+    draws = kit.Draws(5)
+    rows = ["".join("01"[draws.below(2)] for _ in range(128)) for _ in range(part_of(1_000, share))]
+    lines = ["posgame-vectors 1", "rows 128", f"target {'1' * 128}",
+             *(f"vector {it}" for it in rows), "turn x", ""]
+    return {"GAME": "\n".join(lines)}
+
+
+def vector_nodes(share: float = 1) -> Texts:
+    """Makes a certificate of a game on vectors whose first claim has as many nodes as there may
+    be."""
+    claim = kit.claim("x x win", "||x|trees e 0 / 1\n", part_of(100_000, share))
+    return {**vectors(0.1), "CERT": kit.certificate(claim)}
+
+
+def long_lines(share: float = 1) -> Texts:
+    """Makes a game of as many drawn lines of 20 points as there may be."""
+    return {"GAME": game(kit.scatter(1, POINTS, part_of(MOST_LINES, share), 20))}
+
+
+def graph(share: float = 1) -> Texts:
+    """Makes a switching game of many vertices and edges, drawn."""
+    edges = part_of(1_000, share)
+    return {"GAME": kit.switching(kit.scattered(3, max(edges // 2, 2), edges, True))}
+
+
+def one_certificate(share: float = 1) -> Texts:
+    """Makes a plan whose positions all name one game file, and its certificate of 100 KB."""
+    count = part_of(1_000, share)
+    rows = [*["game 1"] * count, f"moves {kit.field(f'{v}:{v}' for v in range(min(count, 60)))}"]
+    node = f"||y|all {kit.field(f'{v}:0' for v in range(60))}\n"
+    return {"GAME": kit.game("maker-breaker", "points 60", "line 0 1 2 3 4", "line 5 6 7 8 9"),
+            "plan": "\n".join(["posgame-plan 1", *rows, ""]),
+            "00001.cert": kit.certificate(kit.claim("y y win", node, 300))}
+
+
+def deep_plan(share: float = 1) -> Texts:
+    """Makes a plan of as many positions as there may be, each named by those after it."""
+    rows = ["decided", "moves 0:0"]
+    rows += [f"moves {v % 60}:{v - 1} {(v + 1) % 60}:{v - 2}"
+             for v in range(2, part_of(100_000, share))]
+    return {"GAME": kit.game("maker-breaker", "points 60", "line 0 1 2 3 4", "line 5 6 7 8 9"),
+            "plan": "\n".join(["posgame-plan 1", *rows, ""])}
+
+
+def far_layout(share: float = 1) -> Texts:
+    """Makes a game of 256 points and a layout whose last place is as far as it may be."""
+    far = part_of(999, share ** 0.5)
+    places = [f"at {v} {4 * (v % 16)} {2 * (v // 16)}" for v in range(POINTS - 1)]
+    return {"GAME": game([(0, 1)]), "INPUT": "quit\n",
+            "LAYOUT": "\n".join([*places, f"at {POINTS - 1} {max(far, 70)} {max(far, 40)}", ""])}
+
+
+def many_pages(share: float = 1) -> Texts:
+    """Makes a proof of 2,000 nodes, most of which have 255 replies."""
+    lines = [[2 * i, 2 * i + 1] for i in range(128)]
+    pairs_of_rest = kit.field(f"{a}-{b}" for a, b in lines)
+    claim = kit.claim("x y win", f"||x|pairs {pairs_of_rest}\n", part_of(2_000, share))
+    return {"GAME": game(lines), "CERT": kit.certificate(claim)}
+
+
+def open_lines(share: float = 1) -> Texts:
+    """Makes a game of many lines, and a person who asks for them again and again."""
+    lines = [(0, 1 + i % 255) for i in range(part_of(MOST_LINES, share))]
+    return {"GAME": game(lines), "INPUT": "lines\n" * 10_000}
+
+
 SOME_PAIRS, MOST_PAIRS, IMAGE_PAIRS = (
     functools.partial(long_pairs, *it) for it in ((1, 400_000), (1, MOST_BYTES), (3, MOST_BYTES)))
 # Shapes that are one cell too long, of as many cells as there may be, and with corners as far apart
@@ -168,8 +299,8 @@ ROWS = [
     Row("d", "solve, pairs and long lines", SOLVE, pairs_among_long, 2, 60, (1,)),
     Row("e", "review, pairs 156 times", "review GAME RECORD", pairs_often, 60, 60, (1,)),
     Row("g", "check, 400 nodes of 127 attacks", CHECK, threats, 2, 60),
-    Row("a", "draw, 400 KB of pairs", DRAW, SOME_PAIRS, 2, 60, (4,)),
-    Row("a", "draw, 268 MB of pairs", DRAW, MOST_PAIRS, 10, 60, (4,)),
+    Row("a", "draw, 400 KB of pairs", DRAW, SOME_PAIRS, 2, 60, (4,), "draw"),
+    Row("a", "draw, 268 MB of pairs", DRAW, MOST_PAIRS, 10, 60, (4,), "draw"),
     Row("f", "check, 4 MB of shapes too long", CHECK, SHORT, 1, 60, (3, 4)),
     Row("f", "check, 4 MB of shapes of 100 cells", CHECK, LONG, 1, 60, (3, 4)),
     Row("f", "check, 4 MB of shapes as large", CHECK, BOX, 1, 60, (3, 4)),
@@ -178,7 +309,48 @@ ROWS = [
     Row("j", "play, 268 MB of 257 replies", "play GAME CERT --side y", many_replies, 10, 600, (4,)),
     Row("k", "check, 268 MB of pairs", CHECK, MOST_PAIRS, 10, 60, (4,)),
     Row("k", "check, 268 MB of pairs, version 3", CHECK, IMAGE_PAIRS, 10, 60, (4,)),
+    Row("l", "record, 10,000 events on 20,000 lines", "record GAME OUT", session, 10, 60),
+    Row("m", "review, 990 moves on a graph", "review GAME GAME.record", graph_moves, 60, 60),
+    Row("n", "play, weights of 4,000 lines", "play GAME CERT --side y", weights, 20, 60),
+    Row("o", "report, 268 MB of pairs", "report GAME CERT", MOST_PAIRS, 10, 60, (4,)),
+    Row("p", "gen, 400,000 points in lines", "gen scatter 1 256 20000 20 OUT",
+        lambda: {}, 2, 60),
+    Row("q", "span check, 4 MB of parts", "span check GAME CERT", parts, 2, 60, (4,)),
+    Row("q", "span solve, 1,000 edges", "span solve GAME OUT", forests, 2, 60),
+    Row("r", "vec solve, 1,000 vectors", "vec solve GAME OUT", vectors, 2, 60),
+    Row("r", "vec check, 100,000 nodes", "vec check GAME CERT", vector_nodes, 2, 60, (4,)),
+    Row("s", "settle, 20,000 lines", "GAME OUT --positions 1", long_lines, 60, 400, (0, 1),
+        "settle"),
+    Row("t", "moves, 1,000 edges", "moves GAME", graph, 60, 60, (0,), "settle"),
+    Row("u", "split, 20,000 lines into 100", "split GAME . --most 300", long_lines, 60, 400, (0,),
+        "settle"),
+    Row("v", "join, 1,000 positions of one certificate", "join GAME . OUT", one_certificate, 20,
+        200, (1,), "settle"),
+    Row("v", "join, 100,000 positions", "join GAME . OUT", deep_plan, 20, 400, (1,), "settle"),
+    Row("w", "draw, 20,000 lines", "GAME", long_lines, 2, 60, (0,), "draw"),
+    Row("w", "draw, 100 sheets of 1,000 vectors", "--blank 100 GAME", vectors, 20, 2_000, (0,),
+        "draw"),
+    Row("w", "draw, a far layout", "--layout LAYOUT GAME", far_layout, 2, 60, (0,), "draw"),
+    Row("w", "draw, a record of 990 moves", "GAME GAME.record", graph_moves, 2, 60, (0,),
+        "draw"),
+    Row("x", "draw, a book of 2,000 nodes", "--book GAME CERT", many_pages, 60, 1_000, (0,),
+        "draw"),
+    Row("y", "play at a table, a far layout", "GAME --layout LAYOUT", far_layout, 2, 60, (0,),
+        "play"),
+    Row("y", "play at a table, 10,000 times lines", "GAME", open_lines, 20, 60, (0,), "play"),
+    Row("z", "play at a table, 4,000 points taken back", "GAME CERT", weights_undone, 300, 60,
+        (0,), "play"),
 ]
+# The shares of a size at which --growth counts, by their greater one, and the greatest factor.
+MOST_GROWTH = 3.0
+
+
+def write(folder: pathlib.Path, texts: Texts) -> str:
+    """Writes the files of a row, and returns what is typed."""
+    for name, text in texts.items():
+        if name != "INPUT":
+            (folder / name).write_text(text, encoding="ascii")
+    return texts.get("INPUT", "")
 
 
 def measured(program: str, row: Row, keep: str, limit: float) -> kit.Run:
@@ -186,29 +358,64 @@ def measured(program: str, row: Row, keep: str, limit: float) -> kit.Run:
     kept = pathlib.Path(keep, row.letter)
     with contextlib.nullcontext(kept) if keep else kit.files() as folder:
         folder.mkdir(parents=True, exist_ok=True)
-        for name, text in row.make().items():
-            (folder / name).write_text(text, encoding="ascii")
-        return kit.run(program, *row.words.split(), folder=folder, most=int(4 * limit) + 1)
+        typed = write(folder, row.make())
+        return kit.run(program, *row.words.split(), folder=folder, typed=typed,
+                       most=int(4 * limit) + 1)
+
+
+def counted(program: str, row: Row, share: float, is_timed: bool) -> int:
+    """Returns the instructions, or else the microseconds, of a row at a share of its size."""
+    with kit.files() as folder:
+        typed = write(folder, row.make(share))
+        if is_timed:
+            runs = [kit.run(program, *row.words.split(), typed=typed, folder=folder, most=60)
+                    for _ in range(2)]
+            return round(1_000_000 * min(it.processor for it in runs))
+        with kit.inside(folder):
+            return kit.count(program, *row.words.split(), typed=typed).instructions
+
+
+def growth(row: Row, program: str, part: int, is_timed: bool, table: kit.Table) -> None:
+    """Counts a row at two sizes, and adds it to the table."""
+    least, one, two = (counted(program, row, it, is_timed)
+                       for it in (0, 1 / (2 * part), 1 / part))
+    factor = (two - least) / max(one - least, 1)
+    table.row(f"{row.letter}: {row.what}", least, one, two, (factor, MOST_GROWTH))
+
+
+def is_sized(row: Row) -> bool:
+    """Tells whether the files of a row can be made smaller."""
+    return getattr(row.make, "__defaults__", None) == (1,)
 
 
 def main() -> int:
     given = kit.options(__doc__, draw=("", "the program posgame-draw"), rows=("", "their letters"),
+                        settle=("", "the program posgame-settle"),
+                        play=("", "the program posgame-play"),
                         keep=("", "the folder of the files"),
+                        growth=(0, "count instructions at 1/(2 N) and 1/N of the size"),
+                        clock=(False, "count microseconds instead"),
                         slower=(1.0, "how many times as slow the machine is"))
     os.sched_setaffinity(0, {min(os.sched_getaffinity(0))})
-    table = kit.Table("row", kit.Column("s", ".2f"), kit.Column("limit", "g"), "MB", "limit")
+    os.environ.pop("COLUMNS", None)
+    heads = ["nothing", "half", "whole", kit.Column("factor", ".2f")] if given.growth else \
+        [kit.Column("s", ".2f"), kit.Column("limit", "g"), "MB", "limit"]
+    table = kit.Table("row", *heads)
+    programs = {"posgame": given.program, **{it: getattr(given, it) and kit.program_path(
+        getattr(given, it)) for it in ("draw", "settle", "play")}}
     for row in (it for it in ROWS if not given.rows or it.letter in given.rows):
-        name, program = f"{row.letter}: {row.what}", given.program
-        if row.words == DRAW:
-            program = given.draw and kit.program_path(given.draw)
-        if program:
+        name, program = f"{row.letter}: {row.what}", programs[row.program]
+        if not program:
+            table.row(name, f"not run, without posgame-{row.program}")
+        elif given.growth:
+            if is_sized(row):
+                growth(row, program, given.growth, given.clock, table)
+        else:
             limit = row.seconds * given.slower
             done = measured(program, row, given.keep, limit)
             wrong = [] if done.status in row.statuses else [f"status {done.status}"]
             table.row(name, (done.processor, limit), limit,
                       (done.megabytes, row.megabytes), row.megabytes, wrong=wrong)
-        else:
-            table.row(name, "not run, without posgame-draw")
     return table.end()
 
 

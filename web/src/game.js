@@ -46,14 +46,14 @@ export function gameText(game) {
 }
 
 /** @type {(text: string) => Game} Reads a game file without a fault. Comments `# at V A D` say
- * where vertices are drawn. */
+ * where vertices are drawn, with A and D up to 100; others of the kind aren't used. */
 export function readGame(text) {
   const game = newGame();
   for (const line of text.split('\n')) {
     const [key, ...words] = line.split(' ').filter(it => it);
     const numbers = words.map(Number);
-    if (key === '#' && words[0] === 'at' && numbers.slice(1, 4).every(Number.isInteger)) {
-      game.places[numbers[1]] = numbers.slice(2, 4);
+    if (key === '#' && /^at \d{1,3}( \d\d?| 100){2}$/.test(words.join(' '))) {
+      game.places[numbers[1]] = numbers.slice(2);
     } else if (key === 'line' || key === 'shape') {
       game.sets.push([key, ...words].join(' '));
     } else if (key === 'edge') {

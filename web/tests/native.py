@@ -18,6 +18,7 @@ from __future__ import annotations
 
 import base64
 import json
+import os
 import pathlib
 import random
 import re
@@ -106,9 +107,13 @@ def rows(program: str) -> None:
 
 
 def is_plain(folder: pathlib.Path, words: list[str]) -> bool:
-    """Tells whether no word may be a name that isn't one of a plain file."""
-    return not any("/" in it or len(it.encode()) > LONGEST or not it or (folder / it).is_dir()
-                   for it in words)
+    """Tells whether no word may be a name that isn't one of a plain file, or isn't UTF-8, and
+    whether no record takes the place of its game."""
+    names = [it.encode("utf-8", "surrogateescape") for it in words]
+    is_own = "record" in words and any(words.count(it) > 1 for it in words)
+    return not is_own and not any(
+        b"/" in it or len(it) > LONGEST or not it or (folder / os.fsdecode(it)).is_dir()
+        or "\udc80" <= max(os.fsdecode(it)) <= "\udcff" for it in names)
 
 
 class Printing(fuzz.Program):

@@ -109,6 +109,9 @@ test('points, places and sizes', () => {
   const graph = readGame(`# at 2 7 9\n${GRAPH}`);
   assert.deepEqual([pointsOf(graph), pointsOf(newGame())], [4, 9]);
   assert.deepEqual([placeOf(graph, 2), placeOf(graph, 0)], [[7, 9], [10, 50]]);
+  for (const bad of ['0 5', '', '0', '0 1 2 3', '0 1e1 5', '0 -5 5', '0 5 101', 'x 1 2']) {
+    assert.deepEqual(readGame(`# at ${bad}\n${GRAPH}`).places, [], bad);
+  }
   assert.deepEqual(below(3), [0, 1, 2]);
   const game = { ...newGame(), sets: ['shape 11', 'line 0 1'], marks: ['x'] };
   const wider = resized(game, { width: 4 });
