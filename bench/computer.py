@@ -13,7 +13,6 @@ Tried by `bench/test_table.py`. Nothing here is proved.
 """
 from __future__ import annotations
 
-import os
 import random
 import re
 from typing import Callable, Optional
@@ -42,16 +41,14 @@ def values_of(board: table.Board) -> Callable[[kit.Position], int]:
     return lambda position: 1 if wins(position[0], position[1], position[2] == "x") else -1
 
 
-class Versus:
-    """A game against the program, of which an output is known."""
+class Versus(table.Rival):
+    """A game against the program by a search, and the score of each position."""
 
     def __init__(self, board: table.Board, side: str, turn: str, output: str,
                  value: Callable[[kit.Position], int]) -> None:
-        self.board, self.side, self.output, self.value = board, side, output, value
-        self.due, self.wrong = "", list[str]()
+        super().__init__(board, side, turn, output)
+        self.value, self.wrong = value, list[str]()
         self.known: dict[kit.Position, tuple[int, bool]] = {}
-        self.table = table.Table(board)
-        self.table.places = [(frozenset(), frozenset(), turn, board.bias if turn == "y" else 1)]
 
     def told(self, said: str) -> Optional[tuple[int, bool]]:
         """Returns the point that the program claims by its output, which goes on after this, and
@@ -79,10 +76,10 @@ class Versus:
         elif self.board.graph and not is_proved:
             self.wrong.append(f"{place} the point {point} isn't proved")
 
-    def go_on(self) -> str:
-        """Makes the program's moves, and returns what is printed, with the board."""
+    def settle(self) -> str:
+        """Makes the moves that the program owes, and returns what is printed, with the board."""
         said = ""
-        while self.table.score() is None and self.table.places[-1][2] == self.side:
+        while self.owes():
             found = self.told(said)
             if found is None:
                 self.wrong.append(f"after {self.table.moves} no legal point")
@@ -94,12 +91,6 @@ class Versus:
             self.table.claim(point)
         return said + self.table.screen()
 
-    def claim(self, point: int) -> str:
-        """Claims a point for the person, and returns what is printed."""
-        count = len(self.table.moves)
-        said = self.table.claim(point)
-        return said if len(self.table.moves) == count else self.go_on()
-
     def undo(self) -> str:
         """Takes back the person's last point and what came after it, and returns what is
         printed."""
@@ -109,51 +100,16 @@ class Versus:
             return table.REFUSALS["nothing"] + self.table.turn()
         while len(self.table.moves) > theirs[-1]:
             self.table.take_back()
-        return self.go_on()
-
-    def answer(self, line: bytes) -> Optional[str]:
-        """Does what a line asks for, and returns what is printed, or None if the game is left."""
-        text = line.strip(b" \t\r").decode("latin-1")
-        point = self.table.point(text)
-        if len(line) < table.LONGEST and text == "undo":
-            return self.undo()
-        if len(line) < table.LONGEST and point is not None:
-            return self.claim(point)
-        return self.table.answer(line)
-
-    def play(self, typed: bytes) -> str:
-        """Returns all that is printed of a game with these lines, with its record's text."""
-        self.due, lines = self.go_on(), table.cut(typed)[:table.MOST_LINES]
-        for line in lines:
-            more = self.answer(line) if self.table.score() is None else None
-            if more is None:
-                break
-            self.due += more
-        else:
-            self.due += self.table.end(len(lines))
-        return self.due + f"recorded {len(self.table.moves)}\n"
-
-    def record(self) -> str:
-        """Returns the record of the game."""
-        return "".join(f"{it}\n" for it in
-                       ("posgame-record 1", *(f"move {it}" for it in self.table.moves)))
+        return self.settle()
 
 
 def tried(program: str, board: table.Board, side: str, turn: str, typed: bytes,
           value: Callable[[kit.Position], int]) -> tuple[Versus, list[str]]:
     """Returns a run with this input, and what is wrong in it or in its record."""
-    with kit.files(game=board.text()) as folder:
-        words = (program, folder / "game", "--computer", side, "--turn", turn, "--record",
-                 folder / "record")
-        env = {"PATH": os.environ["PATH"], "COLUMNS": str(table.COLUMNS)}
-        done = kit.run(*words, typed=typed, clock=60, env=env)
-        stored = (folder / "record").read_text() if (folder / "record").exists() else ""
-    versus = Versus(board, side, turn, done.output, value)
+    stored = table.stored(program, board, typed, "--computer", side, "--turn", turn)
+    versus = Versus(board, side, turn, stored.run.output, value)
     due = versus.play(typed)
-    wrong = [] if done.status == 0 else [f"status {done.status}"]
-    wrong += [] if done.output == due else [table.difference(done.output, due)]
-    wrong += [] if stored == versus.record() else ["another record"]
-    return versus, wrong + versus.wrong
+    return versus, stored.wrong(due, versus.record()) + versus.wrong
 
 
 def main() -> int:

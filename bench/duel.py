@@ -14,7 +14,6 @@ nodes of the certificate, and follows them. The status is 1 if anything differs.
 """
 from __future__ import annotations
 
-import os
 import random
 import re
 from typing import Optional
@@ -70,26 +69,22 @@ class Guide:
             self.at = next(int(it.split(":")[1]) for it in body[1:] if it.startswith(f"{point}:"))
 
 
-class Duel:
-    """A game against the program, of which an output and the bodies of the claim are known."""
+class Duel(table.Rival):
+    """A game against the program by a certificate, of which the bodies of the claim are known."""
+
+    MEANINGS = MEANINGS
 
     def __init__(self, board: table.Board, claim: list[str], bodies: list[list[str]],
                  output: str) -> None:
-        self.board, self.bodies, self.output, self.due = board, bodies, output, ""
-        self.turn, self.side, self.goal = claim
+        turn, side, self.goal = claim
+        self.bodies = bodies
         self.owns: dict[tuple[int, ...], list[int]] = {}
-        self.start()
+        super().__init__(board, side, turn, output)
 
     def start(self) -> None:
         """Begins the game."""
+        super().start()
         self.replies, self.guide = list[int](), Guide(self.bodies)
-        self.table = table.Table(self.board)
-        left = self.board.bias if self.turn == "y" else 1
-        self.table.places = [(frozenset(), frozenset(), self.turn, left)]
-
-    def owes(self) -> bool:
-        """Returns whether the program is to move."""
-        return self.table.score() is None and self.table.places[-1][2] == self.side
 
     def told(self, said: str) -> Optional[int]:
         """Returns the point that the program claims by its output after a text, if it is legal."""
@@ -99,7 +94,7 @@ class Duel:
         return point if is_legal else None
 
     def settle(self) -> str:
-        """Makes the moves that the program owes, and returns what is printed."""
+        """Makes the moves that the program owes, and returns what is printed, with the board."""
         known = self.owns.get(tuple(self.replies))
         own, said = list[int](), ""
         while self.owes():
@@ -117,15 +112,10 @@ class Duel:
         promise = f"I play {letter} and {GOALS[self.goal]}, whatever you claim.\n"
         return said + promise + self.table.screen()
 
-    def claim(self, point: int) -> str:
-        """Claims a point for the person, and returns what is printed."""
-        count = len(self.table.moves)
-        said = self.table.claim(point)
-        if len(self.table.moves) == count:
-            return said
+    def reply(self, point: int) -> None:
+        """Notes that the person has claimed a point."""
         self.replies.append(point)
         self.guide.reply(point)
-        return self.settle()
 
     def undo(self) -> str:
         """Takes the last reply back, and returns what is printed."""
@@ -138,30 +128,6 @@ class Duel:
             said = self.claim(point)
         return said
 
-    def answer(self, line: bytes) -> Optional[str]:
-        """Does what a line asks for, and returns what is printed, or None if the game is left."""
-        text = line.strip(b" \t\r").decode("latin-1")
-        point = self.table.point(text)
-        if len(line) < table.LONGEST and text == "undo":
-            return self.undo()
-        if len(line) < table.LONGEST and point is not None:
-            return self.claim(point)
-        if text == "?":
-            return self.board.goals() + table.HELP + MEANINGS + self.table.turn()
-        return self.table.answer(line)
-
-    def play(self, typed: bytes) -> str:
-        """Returns all that is printed of a game with these lines, with its record's text."""
-        self.due, lines = self.settle(), table.cut(typed)[:table.MOST_LINES]
-        for line in lines:
-            more = self.answer(line) if self.table.score() is None else None
-            if more is None:
-                break
-            self.due += more
-        else:
-            self.due += self.table.end(len(lines))
-        return self.due + f"recorded {len(self.table.moves)}\n"
-
     def is_held(self) -> bool:
         """Returns whether the goal is reached, if the game is over."""
         score = self.table.score()
@@ -170,28 +136,14 @@ class Duel:
         own = score if self.side == "x" else -score
         return own > (0 if self.goal == "win" else -1)
 
-    def record(self) -> str:
-        """Returns the record of the game."""
-        return "".join(f"{it}\n" for it in
-                       ("posgame-record 1", *(f"move {it}" for it in self.table.moves)))
-
 
 def tried(program: str, board: table.Board, proof: str, claim: list[str],
           typed: bytes) -> list[str]:
     """Returns what differs in a run with this input, and in its record."""
     turn, side, _ = claim
-    with kit.files(game=board.text(), proof=proof, layout=board.layout_text()) as folder:
-        more = ("--layout", folder / "layout") if board.layout else ()
-        words = (program, folder / "game", folder / "proof", "--side", side, "--turn", turn,
-                 "--record", folder / "record", *more)
-        env = {"PATH": os.environ["PATH"], "COLUMNS": str(table.COLUMNS)}
-        done = kit.run(*words, typed=typed, clock=60, env=env)
-        stored = (folder / "record").read_text() if (folder / "record").exists() else ""
-    duel = Duel(board, claim, bodies_of(proof, " ".join(claim)), done.output)
-    due = duel.play(typed)
-    wrong = [] if done.status == 0 else [f"status {done.status}"]
-    wrong += [] if done.output == due else [table.difference(done.output, due)]
-    wrong += [] if stored == duel.record() else ["another record"]
+    stored = table.stored(program, board, typed, "--side", side, "--turn", turn, proof=proof)
+    duel = Duel(board, claim, bodies_of(proof, " ".join(claim)), stored.run.output)
+    wrong = stored.wrong(duel.play(typed), duel.record())
     return wrong + ([] if duel.is_held() else ["the goal isn't reached"])
 
 

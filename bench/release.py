@@ -543,29 +543,72 @@ def serves(prefix: pathlib.Path, folder: pathlib.Path) -> list[str]:
     return problems + differs("posgame-why G6", (why.returncode, "G6" in why.stdout), (0, True))
 
 
+def commands_of(text: str) -> list[tuple[str, str]]:
+    """Returns the commands that a text shows, each with the lines that are shown below it.
+
+    >>> commands_of("$ cat a\\nb\\n.Ed\\n.Dl $ draw a \\\\e\\n    > b\\n")
+    [('cat a', 'b\\n'), ('draw a     > b', '')]
+    """
+    lines = text.replace("\\e\n", "").replace("\n.Dl ", "\n").splitlines()
+    found = []
+    for at, line in enumerate(lines):
+        if line.startswith("$ "):
+            due = itertools.takewhile(lambda it: it[:1] not in "$.", lines[at + 1 :])
+            found.append((line[2:], "".join(f"{it}\n" for it in due)))
+    return found
+
+
+def indented(name: str) -> str:
+    """Returns the indented lines of a document."""
+    return "".join(f"{it[4:]}\n" for it in text_of(name).splitlines() if it[:4] in ("", "    "))
+
+
+def examples_of(page: str) -> str:
+    """Returns the examples of a man page."""
+    source = text_of(f"man/{page}")
+    return source[source.index(".Sh EXAMPLES\n") : source.index(".Sh SEE ALSO\n")]
+
+
 def shown(prefix: pathlib.Path, folder: pathlib.Path) -> list[str]:
-    """Runs the commands that README.md and posgame(1) show, and compares what they print."""
+    """Runs the commands that README.md, docs/FORMATS.md and the man pages show, with an empty
+    input, and compares what they print with what is shown, if anything is."""
     folder.mkdir()
     for name in ("posgame", "posgame-draw", "posgame-settle", "posgame-play", "posgame-why"):
         (folder / name).symlink_to(prefix / "bin" / name)
-    (folder / "examples").symlink_to(prefix / "share/doc/posgame/examples")
-    page = text_of("man/posgame.1").replace("\n.Dl ", "\n")
-    lines = [it[4:] for it in text_of("README.md").splitlines() if it.startswith("    ")]
-    lines += page[page.index(".Sh EXAMPLES\n") : page.index(".Sh SEE ALSO\n")].splitlines()
-    env, problems, count = {"PATH": f"{prefix}/bin:/usr/bin:/bin"}, [], 0
-    for at, line in enumerate(lines):
-        if not line.startswith("$ "):
-            continue
-        count += 1
-        due = itertools.takewhile(lambda it: it[:1] not in "$.", lines[at + 1 :])
-        said = run(["bash", "-c", line[2:]], cwd=folder, env=env)
-        expected = "".join(f"{it}\n" for it in due)
-        if "posgame-why" not in line:
-            problems += differs(line, (said.stdout, said.returncode), (expected, 0))
+    examples = folder / "examples"
+    shutil.copytree(prefix / "share/doc/posgame/examples", examples)
+    pages = [(folder, indented("README.md")), (folder, indented("docs/FORMATS.md"))]
+    pages += [(folder, examples_of(it)) for it in ("posgame.1", "posgame-settle.1")]
+    pages += [(examples, examples_of(it)) for it in ("posgame-draw.1", "posgame-play.1")]
+    env, problems, count = {"PATH": f"{prefix}/bin:/usr/bin:/bin", "HOME": str(folder)}, [], 0
+    for place, text in pages:
+        for command, due in commands_of(text):
+            count += 1
+            if command.startswith("cat "):
+                (place / command[4:]).write_text(due, encoding="utf-8")
+            said = run(["bash", "-c", command], cwd=place, env=env)
+            problems += differs(command, (said.stdout if due else "", said.returncode), (due, 0))
     picture = (folder / "bridg-it.svg").read_text(encoding="utf-8")
     if picture != text_of("docs/pictures/bridg-it-trees.svg"):
         problems.append("bridg-it.svg is not the picture of README.md")
-    return problems + differs("commands that are shown", count, 7)
+    return problems + differs("commands that are shown", count, 16)
+
+
+def served(prefix: pathlib.Path, folder: pathlib.Path) -> list[str]:
+    """Checks an example by the commands of docs/SERVER.md."""
+    folder.mkdir()
+    for ending in ("game", "cert"):
+        name = "bridg-it.game" if ending == "game" else "bridg-it-trees-and-cuts.cert"
+        shutil.copy2(prefix / "share/doc/posgame/examples" / name, folder / ending)
+    block = re.search(r"^```bash\n(.*?)^```", text_of("docs/SERVER.md"), re.MULTILINE | re.DOTALL)
+    if block is None:
+        return ["docs/SERVER.md shows no commands"]
+    env = {"PATH": f"{prefix}/bin:/usr/bin:/bin", "folder": str(folder)}
+    said = run(["bash", "-c", block[1]], env=env)
+    answer = folder / "answer"
+    found = answer.read_text(encoding="utf-8") if answer.is_file() else said.stderr
+    return differs("docs/SERVER.md", (said.returncode, found),
+                   (0, "accepted x x win\naccepted y y win\n"))
 
 
 def installed(top: pathlib.Path) -> list[str]:
@@ -576,6 +619,7 @@ def installed(top: pathlib.Path) -> list[str]:
     if ended.returncode:
         return [f"install: {ended.stderr!r:.300}"]
     problems = serves(prefix, top / "work") + shown(prefix, top / "shown")
+    problems += served(prefix, top / "served")
     problems += differs("uninstall", run([TOP / "install", "--uninstall", prefix]).returncode, 0)
     return problems + differs("what is left", sorted(prefix.iterdir()), [])
 

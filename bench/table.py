@@ -358,6 +358,82 @@ class Table:
         return "".join(f"{it}\n" for it in ("posgame-record 1", *self.events))
 
 
+class Rival:
+    """A game against the program, of which an output is known: what is the same whether it plays by
+    a certificate (bench/duel.py) or by a search (bench/computer.py)."""
+
+    # What `?` explains besides.
+    MEANINGS = ""
+
+    def __init__(self, board: Board, side: str, turn: str, output: str) -> None:
+        self.board, self.side, self.output, self.due = board, side, output, ""
+        self.first = frozenset[int](), frozenset[int](), turn, board.bias if turn == "y" else 1
+        self.start()
+
+    def start(self) -> None:
+        """Begins the game."""
+        self.table = Table(self.board)
+        self.table.places = [self.first]
+
+    def owes(self) -> bool:
+        """Returns whether the program is to move."""
+        return self.table.score() is None and self.table.places[-1][2] == self.side
+
+    def settle(self) -> str:
+        """Makes the moves that the program owes, and returns what is printed, with the board."""
+        raise NotImplementedError
+
+    def claim(self, point: int) -> str:
+        """Claims a point for the person, and returns what is printed."""
+        count = len(self.table.moves)
+        said = self.table.claim(point)
+        if len(self.table.moves) == count:
+            return said
+        self.reply(point)
+        return self.settle()
+
+    def reply(self, point: int) -> None:
+        """Notes that the person has claimed a point."""
+
+    def undo(self) -> str:
+        """Takes the person's last point back, and returns what is printed."""
+        raise NotImplementedError
+
+    def answer(self, line: bytes) -> Optional[str]:
+        """Does what a line asks for, and returns what is printed, or None if the game is left."""
+        text = line.strip(b" \t\r").decode("latin-1")
+        point = self.table.point(text)
+        if len(line) < LONGEST and text == "undo":
+            return self.undo()
+        if len(line) < LONGEST and point is not None:
+            return self.claim(point)
+        if len(line) < LONGEST and text == "?":
+            return self.board.goals() + HELP + self.MEANINGS + self.table.turn()
+        return self.table.answer(line)
+
+    def play(self, typed: bytes) -> str:
+        """Returns all that is printed of a game with these lines, with its record's text."""
+        self.due, lines = self.settle(), cut(typed)[:MOST_LINES]
+        for line in lines:
+            more = self.answer(line) if self.table.score() is None else None
+            if more is None:
+                break
+            self.due += more
+        else:
+            self.due += self.table.end(len(lines))
+        return self.due + recorded(self.table)
+
+    def record(self) -> str:
+        """Returns the record of the game, which has no point that was taken back."""
+        return "".join(f"{it}\n" for it in
+                       ("posgame-record 1", *(f"move {it}" for it in self.table.moves)))
+
+
+def recorded(table: Table) -> str:
+    """Returns what is printed when the record is stored."""
+    return f"recorded {len(table.moves)}\n"
+
+
 def cut(typed: bytes) -> list[bytes]:
     """Returns the lines of an input; of a long one, each part that is read by itself.
 
@@ -424,19 +500,36 @@ def typed_lines(draw: random.Random, board: Board, count: int) -> bytes:
     return b"".join(line + b"\n" for line in lines)
 
 
+class Stored(NamedTuple):
+    """A run, and the text of the record that it stored."""
+
+    run: kit.Run
+    record: str
+
+    def wrong(self, due: str, record: str) -> list[str]:
+        """Returns what differs from what must be printed, and from the record that is due."""
+        wrong = [] if self.run.status == 0 else [f"status {self.run.status}"]
+        wrong += [] if self.run.output == due else [difference(self.run.output, due)]
+        return wrong + ([] if self.record == record else ["another record"])
+
+
+def stored(program: str, board: Board, typed: bytes, *words: str, proof: str = "") -> Stored:
+    """Runs the program on a board with this input and these words, and the certificate if there is
+    one."""
+    with kit.files(game=board.text(), layout=board.layout_text(), proof=proof) as folder:
+        names = ["game", *(["proof"] if proof else []), *words, "--record", "record"]
+        names += ["--layout", "layout"] if board.layout else []
+        env = {"PATH": os.environ["PATH"], "COLUMNS": str(COLUMNS)}
+        done = kit.run(program, *names, typed=typed, folder=folder, clock=60, env=env)
+        record = folder / "record"
+        return Stored(done, record.read_text() if record.exists() else "")
+
+
 def tried(program: str, board: Board, typed: bytes) -> list[str]:
     """Returns what differs in a run with this input, and in its record."""
     table = Table(board)
-    due = table.play(typed) + f"recorded {len(table.moves)}\n"
-    with kit.files(game=board.text(), layout=board.layout_text()) as folder:
-        more = ("--layout", folder / "layout") if board.layout else ()
-        words = program, folder / "game", "--record", folder / "record", *more
-        env = {"PATH": os.environ["PATH"], "COLUMNS": str(COLUMNS)}
-        done = kit.run(*words, typed=typed, clock=60, env=env)
-        stored = (folder / "record").read_text() if (folder / "record").exists() else ""
-    wrong = [] if done.status == 0 else [f"status {done.status}"]
-    wrong += [] if done.output == due else [difference(done.output, due)]
-    return wrong + ([] if stored == table.record() else ["another record"])
+    due = table.play(typed) + recorded(table)
+    return stored(program, board, typed).wrong(due, table.record())
 
 
 def difference(found: str, due: str) -> str:

@@ -9,7 +9,10 @@ import catalogue
 import checked
 import edits
 import families
+import fuzz_programs
 import lay_out
+import mutants
+import release
 import same_search
 import settling
 import table
@@ -17,8 +20,8 @@ import theorem
 import tutorial
 import width
 
-SCRIPTS = (catalogue, checked, edits, families, lay_out, same_search, settling, table, theorem,
-           tutorial, width)
+SCRIPTS = (catalogue, checked, edits, families, fuzz_programs, lay_out, mutants, release,
+           same_search, settling, table, theorem, tutorial, width)
 
 
 def load_tests(_: unittest.TestLoader, tests: unittest.TestSuite, __: object) -> unittest.TestSuite:

@@ -1,11 +1,11 @@
 #!/usr/bin/env python3
 """Writes docs/DEFINED.md, the definitions that the theorems of docs/THEOREM.md speak of, as
-they stand in crates/*/specs; and looks up in the sources each name by which docs/THEOREM.md says
-where something is proved.
+they stand in crates/*/specs; looks up in the sources each name by which docs/THEOREM.md says where
+something is proved; and looks whether what is to be read is listed there.
 
     bench/theorem.py            writes docs/DEFINED.md
     bench/theorem.py --check    writes nothing; the status is 1 if the file differs from the
-                                sources, or a name isn't there
+                                sources, a name isn't there, or a definition isn't listed
 
 Its examples are tried by `bench/test_examples.py`. Nothing is proved of this script.
 """
@@ -232,13 +232,39 @@ def lost(text: str) -> list[str]:
     return wrong
 
 
+def listed(text: str) -> list[str]:
+    """Returns the modules of definitions in a list of files.
+
+    >>> listed("1. Files: `pg_io/specs`: Files, Console; `IsNoWorse` (`pg_game`).")
+    ['pg_io/specs/Files', 'pg_io/specs/Console']
+    """
+    found = re.findall(r"`(pg_\w+/specs)`: ([^;.`]*)", " ".join(text.split()))
+    return [f"{folder}/{name}" for folder, names in found for name in re.findall(r"\w+", names)]
+
+
+def unlisted(text: str) -> list[str]:
+    """Returns the definitions that are cited in the files to be read, but are in no such file and
+    not named on the page. Text is that of the page."""
+    part = text[text.index("## What must be read"):text.index("The laws also use")]
+    modules, single = listed(part), set(re.findall(r"`(\w+)`", part))
+    heads, missing = tuple(f"{it}/" for it in modules), set[str]()
+    for module in modules:
+        cited = imports((kit.TOP / "crates" / f"{module}.antt").read_text())
+        missing |= {f"{name} of {place}" for name, place in cited.items()
+                    if "/specs/" in place and "/declared/" not in place and name not in single
+                    and not f"{place}/".startswith(heads)}
+    return sorted(missing)
+
+
 def main() -> int:
     """Writes the page, or checks both."""
     words = kit.parser(__doc__, None)
     words.add_argument("--check", action="store_true", help="write nothing, and compare")
     is_check = words.parse_args().check
     text = defined()
-    wrong = [f"not in the sources: {name}" for name in lost(PAGE.read_text())]
+    page = PAGE.read_text()
+    wrong = [f"not in the sources: {name}" for name in lost(page)]
+    wrong += [f"to be read, but not listed: {name}" for name in unlisted(page)]
     if not is_check:
         DEFINED.write_text(text)
     elif not DEFINED.is_file() or DEFINED.read_text() != text:

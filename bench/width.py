@@ -168,7 +168,6 @@ def main() -> int:
     words = argparse.ArgumentParser(description=__doc__.split("\n\n")[0])
     words.add_argument("--only", nargs="+", choices=KINDS, default=KINDS, metavar="KIND",
                        help=f"these kinds of file: {', '.join(KINDS)}")
-    words.add_argument("--count", action="store_true", help="a number for each file, no lines")
     given = words.parse_args()
     wide = many = 0
     for name, kind in ((name, kind_of(name)) for name in tracked()):
@@ -177,10 +176,7 @@ def main() -> int:
         lines = list(too_long(name, kind))
         heads = list(crowded(name, (TOP / name).read_text(encoding="utf-8", errors="replace")))
         wide, many = wide + len(lines), many + len(heads)
-        if given.count and lines + heads:
-            print(f"{name}: {len(lines + heads)}")
-        elif not given.count:
-            print("".join(f"{name}:{number}: {what}\n" for number, what in lines + heads), end="")
+        print("".join(f"{name}:{number}: {what}\n" for number, what in lines + heads), end="")
     print(f"{wide} lines are too long in {', '.join(given.only)}, and {many} functions have more "
           f"than {MOST_CLAUSES} clauses")
     return int(wide + many > 0)
