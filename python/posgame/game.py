@@ -279,17 +279,18 @@ class Game:
         return Review(losses, int(last[1])) if done.status == 0 else \
             Review(losses, None, int(last[2]), int(last[4]))
 
-    def picture(self, certificate: Optional[str] = None, node: Optional[str] = None) \
-            -> Optional[str]:
+    def picture(self, certificate: Optional[str] = None, node: Optional[str] = None,
+                options: Iterable[str] = ()) -> Optional[str]:
         """Returns the game as SVG, or a node of a certificate, by `posgame-draw`.
 
         `node` is "K" or "C.K", node K of claim C; without it the root of the first claim is drawn.
-        Returns none for games on vectors, which are not drawn, and if `posgame-draw` is not found.
-        A certificate that is not valid is drawn at its first error.
+        `options` are further arguments of `posgame-draw`, such as "--no-lines" or "--blank=6".
+        Returns none if `posgame-draw` is not found. A certificate that is not valid is drawn at its
+        first error.
         """
         files = {"GAME": self.text, **({"CERT": certificate} if certificate is not None else {})}
-        words = list(files) + ([node] if node is not None else [])
-        if _header(self.text) == "posgame-vectors" or not is_there("posgame-draw"):
+        words = [*options, "--", *files] + ([node] if node is not None else [])
+        if not is_there("posgame-draw"):
             return None
         done = run("posgame-draw", words, {name: bytes_of(text) for name, text in files.items()})
         return done.text if done.text.startswith("<") else answer_of(done, []).text

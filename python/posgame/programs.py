@@ -59,8 +59,12 @@ def find(program: str) -> str:
 
 
 def bytes_of(text: str) -> bytes:
-    """Returns the bytes of a text; those that are not ASCII are as they were read."""
-    return text.encode("utf-8", "surrogateescape")
+    """Returns the bytes of a text; those that are not ASCII are as they were read, or others that
+    are not ASCII either."""
+    try:
+        return text.encode("utf-8", "surrogateescape")
+    except UnicodeEncodeError:
+        return text.encode("utf-8", "surrogatepass")
 
 
 def text_of(data: bytes) -> str:
@@ -76,7 +80,7 @@ def run(program: str, words: List[str], files: Dict[str, bytes], typed: str = ""
         try:
             done = subprocess.run([find(program), *words], cwd=folder, input=typed.encode(),
                                   stdout=subprocess.PIPE, stderr=subprocess.DEVNULL, check=False)
-        except OSError as error:
+        except (OSError, ValueError) as error:  # As for a word with a byte 0 in it.
             raise RunFailed(str(error), f"{program} could not be started") from error
         stored = pathlib.Path(folder, "CERT")
         certificate = stored.read_bytes() if stored.is_file() else None

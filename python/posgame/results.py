@@ -4,7 +4,7 @@ from __future__ import annotations
 import os
 import pathlib
 from dataclasses import dataclass, field
-from typing import TYPE_CHECKING, Hashable, Optional, Tuple, Union
+from typing import TYPE_CHECKING, Hashable, Iterable, Optional, Tuple, Union
 
 from .errors import PosgameError
 from .programs import bytes_of
@@ -72,9 +72,9 @@ class Solution:
         """Writes the certificate file, as the program wrote it to the byte."""
         pathlib.Path(path).write_bytes(bytes_of(self._proof()))
 
-    def picture(self, node: Optional[str] = None) -> Optional[str]:
+    def picture(self, node: Optional[str] = None, options: Iterable[str] = ()) -> Optional[str]:
         """Returns a node of the certificate as SVG (`Game.picture`), or the game without one."""
-        return self.game.picture(self.certificate, node)
+        return self.game.picture(self.certificate, node, options)
 
     def book(self) -> str:
         """Returns the certificate as a book, one page of HTML (`Game.book`)."""

@@ -3,6 +3,7 @@ from __future__ import annotations
 
 import itertools
 import pathlib
+import re
 import shutil
 import subprocess
 import sys
@@ -14,7 +15,8 @@ from unittest import mock
 import posgame.check as second
 
 import stories
-from beside import EXAMPLES, damaged_pairs, differences, example_pairs, second_verdict, Pair
+from beside import (EXAMPLES, TOP, damaged_pairs, differences, example_pairs, second_verdict,
+                    Pair)
 
 COUNT = 2_000
 
@@ -92,6 +94,42 @@ class Beside(unittest.TestCase):
         pair = Pair(game, text.encode(), "chain")
         self.assertEqual(second_verdict(pair).lines, ["accepted x x win"])
         self.assertEqual(differences([pair]), [])
+
+
+class Page(unittest.TestCase):
+    """The files that docs/FORMATS.md shows, and what it says of them."""
+
+    def setUp(self) -> None:
+        page = (TOP / "docs" / "FORMATS.md").read_text(encoding="utf-8")
+        self.games: list[bytes] = []
+        self.pairs: list[Pair] = []
+        shown = re.compile(r"^```text\n((?:#[^\n]*\n)*posgame.*?)^```", re.MULTILINE | re.DOTALL)
+        for text in shown.findall(page):
+            file = text.encode()
+            if text.startswith("posgame-cert"):
+                self.pairs.append(Pair(self.games[-1], file, text.splitlines()[0]))
+            elif re.search(r"^posgame(-span|-vectors)? 1$", text, re.MULTILINE):
+                self.games.append(file)
+
+    def test_examples(self) -> None:
+        self.assertEqual((len(self.games), len(self.pairs)), (9, 3))
+        for game in self.games:
+            family = second.lines_of(game[game.index(b"posgame"):])[0].split()[0]
+            second.read_game(game, family)
+        for pair in self.pairs:
+            self.assertEqual(second_verdict(pair).lines, ["accepted x x win"])
+        self.assertEqual(differences(self.pairs), [])
+
+    def test_faults(self) -> None:
+        folded = next(it for it in self.pairs if it.certificate.startswith(b"posgame-cert 3"))
+        rows = [(b"image 1 0", b"image 2 0", "I3 claim 0 node 1"),
+                (b"image 1 0", b"image 4 0", "I2 claim 0 node 1"),
+                (b"threat 2", b"threat 0", "J10 claim 0 node 0"),
+                (b"grid 3 1", b"points 3", "I2 claim 0 node 1")]
+        for old, new, due in rows:
+            pair = Pair(*(it.replace(old, new) for it in folded[:2]), name=due)
+            self.assertEqual(second_verdict(pair).lines, [f"rejected {due}"])
+            self.assertEqual(differences([pair]), [])
 
 
 class Alone(unittest.TestCase):

@@ -294,6 +294,16 @@ class Errors(unittest.TestCase):
             self.assertEqual((raised.exception.text, raised.exception.meaning),
                              (f"status {status}", meaning))
 
+    def test_what_no_file_or_argument_can_be(self) -> None:
+        game = Game.from_lines(FANO)
+        for text in ("\ud800", "\udc80\ud800"):
+            for call in (Game(text).solve, lambda: game.check(text),
+                         lambda: game.check_again(text)):
+                with self.assertRaises(FileError):
+                    call()
+        with self.assertRaises(RunFailed):
+            game.play(str(game.solve().certificate), "\0")
+
     def test_no_review_of_the_family(self) -> None:
         with self.assertRaises(FileError) as raised:
             Game.from_vectors(["1"], "1").review([0])
@@ -376,7 +386,27 @@ class Pictures(unittest.TestCase):
         for picture in (solution.game._repr_svg_(), solution._repr_svg_(), folded._repr_svg_()):
             root = xml.dom.minidom.parseString(str(picture)).documentElement
             self.assertEqual(root.tagName, "svg")
-        self.assertIsNone(Game.read(EXAMPLES / "six-vectors.game")._repr_svg_())
+
+    def test_vectors(self) -> None:
+        if not is_there("posgame-draw"):
+            self.skipTest("posgame-draw is not found")
+        game = Game.read(EXAMPLES / "six-vectors.game")
+        self.assertIn("<title>Game on vectors</title>", str(game._repr_svg_()))
+        self.assertIn("<title>Short wins: position 0</title>", str(game.solve()._repr_svg_()))
+
+    def test_options(self) -> None:
+        if not is_there("posgame-draw"):
+            self.skipTest("posgame-draw is not found")
+        game = Game.from_grid(3, 3, lines=ROWS, x=[0])
+        self.assertIn('class="line"', str(game.picture()))
+        self.assertNotIn('class="line"', str(game.picture(options=["--no-lines"])))
+        sheet = str(game.picture(options=["--blank=6", "--size=300"]))
+        self.assertIn('width="300"', sheet)
+        self.assertNotIn('class="of-x"', sheet)
+        self.assertIn('height="', str(game.solve().picture(options=["--size", "300"])))
+        with self.assertRaises(RunFailed) as raised:
+            game.picture(options=["--no-picture"])
+        self.assertEqual(raised.exception.text, "words: no meaning")
 
     def test_errors(self) -> None:
         if not is_there("posgame-draw"):
@@ -389,6 +419,9 @@ class Pictures(unittest.TestCase):
         with self.assertRaises(RunFailed) as raised:
             game.picture(game.solve().certificate, "7.0")
         self.assertEqual(raised.exception.text, "words: no such node")
+        for node in ("--size=3", "-h", "\0"):
+            with self.assertRaises(RunFailed):
+                game.picture(game.solve().certificate, node)
         bad = game.picture("posgame-cert 1\nclaim x y win\nnodes 1\n||x|pairs 0-0\n")
         self.assertIn("J6", str(bad))
 
@@ -437,7 +470,8 @@ class Examples(unittest.TestCase):
                 done = doctest.testfile(str(TOP / "docs" / "PYTHON.md"), module_relative=False)
             finally:
                 os.chdir(here)
-            self.assertEqual(sorted(os.listdir(folder)), ["fano.cert", "fano.game", "fano.svg"])
+            names = ["answers.html", "fano.cert", "fano.game", "fano.svg", "puzzles.html"]
+            self.assertEqual(sorted(os.listdir(folder)), names)
         self.assertGreater(done.attempted, 10)
         self.assertEqual(done.failed, 0)
 
