@@ -371,10 +371,27 @@ show_line() {
     ((${#rows[@]})) && printf '    %s\n' "${rows[0]:0:80}" | tr -c '\n -~' '?' >&2
 }
 
+# Says what a common slip in line $2 of the file $1 is, if the code $3 and the line show it.
+show_slip() {
+    local LC_ALL=C rows
+    (($2)) || return 0
+    mapfile -t -s $(($2 - 1)) -n 1 rows < "$1"
+    case $3:${rows[0]-} in
+        G2:$'\xef\xbb\xbf'*) say 'it begins with a byte order mark: save it without one' ;;
+        G2:*$'\r') say "its lines end as on Windows: \`sed -i 's/\\r\$//' FILE\` mends that" ;;
+        G4:kind*) say 'a kind is maker-breaker, maker-maker, avoider-enforcer or switching' ;;
+        G4:turn*) say 'a turn is x or y' ;;
+        G6:*'#'*) say 'a comment has a line of its own, which begins with #' ;;
+        G6:*,*) say 'there are blanks between numbers, and no commas' ;;
+        G7:*) say 'points and vertices are numbered from 0' ;;
+    esac
+}
+
 # Says a fault: the file, where in it, the code, and the line that its code is about (0: none).
 say_fault() {
     say "${1@Q}$2: $(find_text "$3" || printf 'it has a fault') ($3)"
     show_line "$1" "$4"
+    show_slip "$1" "$4" "$3"
 }
 
 # Statuses 3, 4, 10 and 12: which file has a fault, where, and what its code means.
