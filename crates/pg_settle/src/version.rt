@@ -1,4 +1,4 @@
 //! The version of the program.
 
 /// The version that `--version` and lines of JSON print.
-pub const VERSION: &str = "1.0.0";
+pub const VERSION: &str = "1.1.0";

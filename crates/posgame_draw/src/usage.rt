@@ -8,7 +8,7 @@ use pg_replaying::RecordOrder;
 use std::alloc::{AllocError, Global};
 
 /// The version that `--version` prints.
-pub(crate) const VERSION: &str = "1.0.0";
+pub(crate) const VERSION: &str = "1.1.0";
 
 /// The name that the program has in its messages.
 pub(crate) const NAME: &str = "posgame-draw";

@@ -7,7 +7,7 @@ use pg_messages::{DONE, NO_MEANING, NO_MEMORY};
 use std::alloc::Global;
 
 /// The version that `--version` prints.
-pub(crate) const VERSION: &str = "1.0.0";
+pub(crate) const VERSION: &str = "1.1.0";
 
 /// The name that the program has in its messages.
 pub(crate) const NAME: &str = "posgame-play";
