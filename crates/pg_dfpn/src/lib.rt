@@ -6,6 +6,7 @@ mod descent;
 mod drafting;
 mod judging;
 mod moving;
+mod plunging;
 mod settling;
 mod widening;
 

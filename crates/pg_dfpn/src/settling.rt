@@ -9,6 +9,7 @@ use crate::descent::{Search, descend, met};
 use crate::drafting::{Draft, claimer};
 use crate::judging::{Asked, total_at};
 use crate::moving::go_up_to;
+use crate::plunging::plunge;
 use crate::widening::widen;
 use pg_base::{Goal, Kind, Memory, Score};
 use pg_board::Board;
@@ -21,6 +22,18 @@ use std::alloc::Global;
 
 /// The most answers on private pairs that a search keeps.
 const MOST_ANSWERS: u32 = 1_024;
+
+/// Which part of the positions a search in depth may expand.
+const DEPTH_PART: u32 = 4;
+
+/// How the answer is searched for.
+#[derive(Clone, Copy, Debug, PartialEq, Eq)]
+enum Way {
+    /// By proof numbers; positions that a map of the board makes of one another are one.
+    Numbers,
+    /// In depth: a position's moves one after the other.
+    Depth,
+}
 
 /// What a search finds.
 #[derive(Debug, Drop)]
@@ -88,6 +101,7 @@ fn claimed<W: Watch>(
 fn search_answer<W: Watch>(
     alloc: Global,
     asked: Asked<'_>,
+    way: Way,
     board: &mut Board<'_>,
     cache: &mut PairCache,
     search: &mut Search,
@@ -103,15 +117,11 @@ fn search_answer<W: Watch>(
     let key = asked.signatures.at(&board.position());
     let first = met(alloc, asked, &key, board, cache, &mut search.table)?;
     if first.answer().is_none() {
-        descend(
-            alloc,
-            asked,
-            asked.limits.positions,
-            board,
-            cache,
-            search,
-            watch,
-        )?;
+        let most = asked.limits.positions;
+        match way {
+            Way::Numbers => descend(alloc, asked, most, board, cache, search, watch)?,
+            Way::Depth => plunge(alloc, asked, board, cache, search, watch)?,
+        }
         go_up_to(board, 0);
     }
     match search.table.find(&key) {
@@ -120,11 +130,12 @@ fn search_answer<W: Watch>(
     }
 }
 
-/// Searches from the position of the board, at which no play stands: for the answer, and then for a
-/// smaller claim.
+/// Searches from the position of the board, at which no play stands: for the answer, and if it was
+/// searched for by proof numbers then for a smaller claim.
 fn search_from<W: Watch>(
     alloc: Global,
     asked: Asked<'_>,
+    way: Way,
     board: &mut Board<'_>,
     cache: &mut PairCache,
     search: &mut Search,
@@ -137,11 +148,13 @@ fn search_from<W: Watch>(
     ensures most { most_of search.new.table ≡ most_of search.old.table }
     ensures few { search.new.expanded ≤ asked.entry.limits.positions }
 {
-    let Some(answer) = search_answer(alloc, asked, board, cache, search, watch)? else {
+    let Some(answer) = search_answer(alloc, asked, way, board, cache, search, watch)? else {
         return Ok(None);
     };
-    widen(alloc, asked, claimer(answer), board, cache, search, watch)?;
-    go_up_to(board, 0);
+    if way == Way::Numbers {
+        widen(alloc, asked, claimer(answer), board, cache, search, watch)?;
+        go_up_to(board, 0);
+    }
     Ok(Some(answer))
 }
 
@@ -149,6 +162,7 @@ fn search_from<W: Watch>(
 fn settle_on<W: Watch>(
     alloc: Global,
     asked: Asked<'_>,
+    way: Way,
     board: &mut Board<'_>,
     cache: &mut PairCache,
     watch: &mut W,
@@ -163,7 +177,7 @@ fn settle_on<W: Watch>(
         table: Table::new(alloc, asked.limits.entries),
         expanded: 0,
     };
-    let answer = match search_from(alloc, asked, board, cache, &mut search, watch)? {
+    let answer = match search_from(alloc, asked, way, board, cache, &mut search, watch)? {
         Some(answer) => claimed(alloc, asked, answer, board, cache, &search.table, watch)?,
         None => Settled::Unknown,
     };
@@ -174,13 +188,21 @@ fn settle_on<W: Watch>(
     })
 }
 
-/// The answer at the game's position, by the signatures of the game.
-fn settle_with<W: Watch>(
+/// The signatures by which positions are known.
+fn signatures_for(alloc: Global, g: &Game, way: Way) -> Result<Signatures, Memory> {
+    match way {
+        Way::Numbers => Signatures::of_game(alloc, g),
+        Way::Depth => Signatures::without_maps(alloc, g),
+    }
+}
+
+/// The answer at the game's position, searched for in one way.
+fn settle_by<W: Watch>(
     alloc: Global,
     g: &Game,
     question: Score,
     limits: Limits,
-    signatures: &Signatures,
+    way: Way,
     watch: &mut W,
 ) -> Result<Settling, Memory>
     requires question { IsQuestion g.now.kind question }
@@ -189,16 +211,58 @@ fn settle_with<W: Watch>(
     ensures expanded { IfOk result (λ found. found.expanded ≤ limits.positions) }
     ensures entries { IfOk result (λ found. found.entries ≤ limits.entries) }
 {
+    let signatures = signatures_for(alloc, g, way)?;
     let mut cache = PairCache::new(alloc, MOST_ANSWERS)?;
     let mut board = Board::open(alloc, g, &g.start())?;
     let asked = Asked {
         game: g,
         question,
         limits,
-        signatures,
+        signatures: &signatures,
         total: total_at(&board),
     };
-    settle_on(alloc, asked, &mut board, &mut cache, watch)
+    settle_on(alloc, asked, way, &mut board, &mut cache, watch)
+}
+
+/// The answer at the position of a game of Avoider and Enforcer: a claim of Enforcer's that is
+/// found in depth; else what proof numbers find in the positions that are left; else a claim of
+/// Avoider's that was found in depth.
+fn settle_avoider<W: Watch>(
+    alloc: Global,
+    g: &Game,
+    question: Score,
+    limits: Limits,
+    watch: &mut W,
+) -> Result<Settling, Memory>
+    requires question { IsQuestion g.now.kind question }
+    requires lines { g.now.kind ≢ Switching }
+    ensures answer { IfOk result (λ found. IsSettled g.now question found.answer) }
+    ensures expanded { IfOk result (λ found. found.expanded ≤ limits.positions) }
+    ensures entries { IfOk result (λ found. found.entries ≤ limits.entries) }
+{
+    let few = Limits {
+        positions: limits.positions / DEPTH_PART,
+        ..limits
+    };
+    let deep = settle_by(alloc, g, question, few, Way::Depth, watch)?;
+    if let Settled::No(_) = deep.answer {
+        return Ok(deep);
+    }
+    let left = limits.after(deep.expanded);
+    let found = settle_by(alloc, g, question, left, Way::Numbers, watch)?;
+    let (expanded, entries) = (deep.expanded + found.expanded, found.entries);
+    if let Settled::Unknown = found.answer {
+        return Ok(Settling {
+            answer: deep.answer,
+            expanded,
+            entries,
+        });
+    }
+    Ok(Settling {
+        answer: found.answer,
+        expanded,
+        entries,
+    })
 }
 
 /// Whether X reaches the score from the game's position, with a claim that is to show it; or that
@@ -215,6 +279,11 @@ fn settle_with<W: Watch>(
 /// Maker-Maker only the first moves, and only if the tree is large. Of the moves that win the claim
 /// has one to a position that it has already, or else the one whose tree is least; and a position
 /// once.
+///
+/// In Avoider-Enforcer the moves are first searched in depth, by ascending points, for a quarter of
+/// the positions: there a weight tells little of who wins, and any move of Enforcer's may do. A
+/// claim of Enforcer's that this finds is taken. A claim of Avoider's is taken only if proof
+/// numbers find none, since theirs are smaller.
 ///
 /// A claim is within the limits of version 1 of the format, so the checker may be asked. That it is
 /// valid no clause says. `watch` is told now and then how far the search is.
@@ -235,6 +304,8 @@ pub fn settle<W: Watch>(
     ensures expanded { IfOk result (λ found. found.expanded ≤ limits.positions) }
     ensures entries { IfOk result (λ found. found.entries ≤ limits.entries) }
 {
-    let signatures = Signatures::of_game(alloc, g)?;
-    settle_with(alloc, g, question, limits, &signatures, watch)
+    if g.kind == Kind::AvoiderEnforcer {
+        return settle_avoider(alloc, g, question, limits, watch);
+    }
+    settle_by(alloc, g, question, limits, Way::Numbers, watch)
 }

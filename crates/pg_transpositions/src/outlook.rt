@@ -19,7 +19,7 @@ pub(crate) struct Outlook<'a> {
     y: SmallSet,
     free: SmallSet,
     dead: SmallSet,
-    /// The image under each map, where there is one.
+    /// The image under each map, and the signature itself where a map doesn't fit the game.
     images: [Signature; MAPS as usize],
 }
 
@@ -125,10 +125,12 @@ impl<'a> Outlook<'a> {
             point: v,
             dead: self.dying(side, v),
         };
-        let mut images = self.images;
-        for map in 0..MAPS {
-            let place = usize::from(map);
-            images[place] = grown(self.signatures, map, self.images[place], added);
+        let mut images = [grown(self.signatures, 0, self.images[0], added); MAPS as usize];
+        for map in 1..MAPS {
+            if self.signatures.has_map(map) {
+                let place = usize::from(map);
+                images[place] = grown(self.signatures, map, self.images[place], added);
+            }
         }
         let (x, y) = match side {
             Side::X => (self.x.with(v), self.y),

@@ -69,6 +69,21 @@ impl Signatures {
         })
     }
 
+    /// Returns signatures by which positions that a map of the board makes of one another are told
+    /// apart, so that a tree of positions is a tree of signatures.
+    ///
+    /// # Errors
+    ///
+    /// `Memory` if an allocation fails.
+    pub fn without_maps(alloc: Global, g: &Game) -> Result<Signatures, Memory> {
+        let arena = Arena::of_game(alloc, g)?;
+        Ok(Signatures {
+            arena,
+            kind: g.kind,
+            maps: 1,
+        })
+    }
+
     /// The dead points if the sides have these points.
     pub(crate) fn dead(&self, x: SmallSet, y: SmallSet) -> SmallSet {
         let mut dead = self.arena.points;
