@@ -12,6 +12,7 @@ use Rattle.pg_plan.specs.declared.place.Place.TheVariants as places
 use Rattle.pg_plan.specs.declared.place.TheConstants.{MAX_GAME_FILES}
 use Rattle.pg_split.specs.declared.numbering.Piece.{Piece}
 use Rattle.pg_split.specs.declared.numbering.Split.{Split}
+use Rattle.pg_split.specs.Splits.{IsTruePlan}
 
 -- a game file can say the position: it is one of the game, and a turn begins there
 pub record CanBeSaid (g : Game) (p : Position) : Type 0 where
@@ -28,12 +29,13 @@ pub record ArePieces (g : Game) (first : ℕ) (pieces : List Piece) : Type 0 whe
   pub each : All (IsPiece g) pieces
   pub files : map (λ (p : Piece). p.file) pieces ≡ range_with_len first (length pieces)
 
--- what the game is split into: a plan whose text isn't too large for a file, and positions of game
--- files with numbers from the first on
-pub record IsSplitOf (g : Game) (first : ℕ) (split : Split) : Type 0 where
+-- what the game is split into, from an old plan on (`[]` if there is none): a plan of the game
+-- whose text isn't too large for a file, and positions of game files with numbers from the first on
+pub record IsSplitOf (g : Game) (old : List Place) (first : ℕ) (split : Split) : Type 0 where
   pub plan : IsPlan split.plan
   pub fits : length (printed_plan split.plan) ≤ MAX_PLAN_BYTES
   pub pieces : ArePieces g first split.pieces.items
+  pub true_plan : IsTruePlan g old first split.pieces.items split.plan
 
 -- the number of the position's game file is below this one
 abbrev pub IsFileBelow : ℕ → Place → Type 0
@@ -47,4 +49,4 @@ IsFileBelow number (places.Moves steps) = Unit {0}
 pub record IsRefinedFrom (g : Game) (old : List Place) (split : Split) : Type 0 where
   pub first : ℕ
   pub above : All (IsFileBelow first) old
-  pub split_of : IsSplitOf g first split
+  pub split_of : IsSplitOf g old first split

@@ -2,6 +2,7 @@
 //! once, and the plan of the moves above them.
 #![tactic(auto)]
 
+mod checking;
 mod growth;
 mod numbering;
 mod places;

@@ -3,6 +3,7 @@ ghost use Rattle.std.specs.Prelude.{◌≡◌, ◌<◌, ◌≤◌, IfOk, IfSome,
 ghost use Rattle.std.specs.List.{All};
 ghost use Rattle.pg_split.specs.Pieces.{ArePieces, CanBeSaid, IsFileBelow, IsPiece, IsSplitOf};
 
+use crate::checking::is_true_plan;
 use crate::growth::Growth;
 use crate::places::is_plan;
 use crate::spot::{Spot, State};
@@ -193,19 +194,31 @@ pub(crate) fn next_file(places: &[Place]) -> Option<u32>
     Some(next)
 }
 
-/// Returns the plan of the spots, and the positions that are to be written, to game files with
-/// numbers from `first` on. None if that is no plan, or one that is too large for a file.
+/// Returns the plan of the spots, which grew from an old plan (empty if there is none), and the
+/// positions that are to be written, to game files with numbers from `first` on. None if that is no
+/// plan of the game, or one that is too large for a file.
 pub(crate) fn plan_of(
     alloc: Global,
     game: &Game,
+    old: &[Place],
     first: u32,
     growth: &mut Growth<'_>,
 ) -> Result<Option<Split>, Memory>
-    ensures { IfOk result (λ found. IfSome found (IsSplitOf game.now first)) }
+    ensures { IfOk result (λ found. IfSome found (IsSplitOf game.now old.now first)) }
 {
     let pieces = give_files(alloc, game, first, growth.spots.as_mut_slice())?;
     let places = places_of(alloc, growth.spots.as_slice())?;
     if !is_plan(places.as_slice()) {
+        return Ok(None);
+    }
+    if !is_true_plan(
+        alloc,
+        game,
+        old,
+        first,
+        pieces.as_slice(),
+        places.as_slice(),
+    )? {
         return Ok(None);
     }
     let plan = Plan::from_vec(places);

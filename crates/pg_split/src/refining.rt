@@ -132,7 +132,7 @@ pub fn refine(
     let Some(mut growth) = grown_from(alloc, game, plan.as_slice(), files, room)? else {
         return Ok(None);
     };
-    match plan_of(alloc, game, first, &mut growth)? {
+    match plan_of(alloc, game, plan.as_slice(), first, &mut growth)? {
         Some(split) if split.pieces.len() <= most as usize => Ok(Some(split)),
         _ => Ok(None),
     }

@@ -1,5 +1,5 @@
 //! Splitting a game.
-ghost use Rattle.std.specs.Prelude.{◌≡◌, ◌≤◌, IfOk, IfSome, vec_len};
+ghost use Rattle.std.specs.Prelude.{◌≤◌, [], IfOk, IfSome, vec_len};
 ghost use Rattle.pg_split.specs.Pieces.{IsSplitOf};
 
 use crate::growth::Growth;
@@ -50,14 +50,14 @@ fn grown<'a>(
 /// Returns the plan of the game after so many turns, and whether none of its positions is open; or
 /// None if there are more open positions than may be.
 fn split_after(alloc: Global, game: &Game, depth: u32, most: u32) -> Result<Option<Split>, Memory>
-    ensures split { IfOk result (λ found. IfSome found (IsSplitOf game.now FIRST_FILE)) }
+    ensures split { IfOk result (λ found. IfSome found (IsSplitOf game.now [] FIRST_FILE)) }
     ensures few { IfOk result
         (λ found. IfSome found (λ split. vec_len split.pieces ≤ most)) }
 {
     let Some(mut growth) = grown(alloc, game, depth, most)? else {
         return Ok(None);
     };
-    match plan_of(alloc, game, FIRST_FILE, &mut growth)? {
+    match plan_of(alloc, game, &[], FIRST_FILE, &mut growth)? {
         Some(split) if split.pieces.len() <= most as usize => Ok(Some(split)),
         _ => Ok(None),
     }
@@ -71,7 +71,7 @@ fn split_after(alloc: Global, game: &Game, depth: u32, most: u32) -> Result<Opti
 ///
 /// `Memory` if memory runs out.
 pub fn split(alloc: Global, game: &Game, most: u32) -> Result<Option<Split>, Memory>
-    ensures split { IfOk result (λ found. IfSome found (IsSplitOf game.now FIRST_FILE)) }
+    ensures split { IfOk result (λ found. IfSome found (IsSplitOf game.now [] FIRST_FILE)) }
     ensures few { IfOk result
         (λ found. IfSome found (λ split. vec_len split.pieces ≤ most)) }
 {

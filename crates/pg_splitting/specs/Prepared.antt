@@ -1,5 +1,5 @@
 -- What comes of a game, by what its folder contains.
-use Rattle.std.specs.Prelude.{◌≡◌, ◌≤◌, ◌⊎◌, ℕ, List, Option, Some, Err, Ok, IfSome, codes}
+use Rattle.std.specs.Prelude.{◌≡◌, ◌≤◌, ◌⊎◌, ℕ, List, [], Option, Some, Err, Ok, IfSome, codes}
 use Rattle.std.specs.Prelude.{vec_len}
 use Rattle.pg_game.specs.declared.game.Game.{Game}
 use Rattle.pg_io.specs.Causes.{Rose}
@@ -47,13 +47,13 @@ pub record IsAgain (told : Option Holding) (folder : Bytes) (g : Game)
 -- it; else by the plan, whose files keep their numbers
 abbrev pub IsPreparedAs : Bytes → ℕ → Game → Option Holding → Type 0 → Split → Type 0
 IsPreparedAs folder most g told lost split = (vec_len split.pieces ≤ most)
-    × (((IsAbsent told (plan_in folder) ⊎ lost) × IsSplitOf g FIRST_FILE split)
+    × (((IsAbsent told (plan_in folder) ⊎ lost) × IsSplitOf g [] FIRST_FILE split)
     ⊎ IsAgain told folder g split)
 
 -- a game is split by itself into at most so many positions; or there is no plan for it
 abbrev pub IsSplitFirst : ℕ → Game → Prepared → Type 0
 IsSplitFirst most g (prepared.Split split) =
-    (vec_len split.pieces ≤ most) × IsSplitOf g FIRST_FILE split
+    (vec_len split.pieces ≤ most) × IsSplitOf g [] FIRST_FILE split
 IsSplitFirst most g (prepared.Declined decline) = decline ≡ NoPlan
 
 -- positions of a plan are split further, into at most so many; or it isn't that of the game
