@@ -12,9 +12,11 @@ The answers are those of the proved programs, which are found by the environment
 on PATH, or in the clone that contains this package. Nothing of the package itself is proved.
 """
 from .errors import (FileError, MoveRefused, PosgameError, ProgramMissing, Rejected, RunFailed)
-from .game import Game, Play, solve_many
-from .results import Claim, Loss, Moves, Report, ReportedClaim, Review, Solution, Trial
+from .game import Game, Play
+from .many import settle_many, solve_many
+from .results import Claim, Limits, Loss, Moves, Report, ReportedClaim, Review, Solution, Trial
+from .split import Split
 
-__all__ = ["Claim", "FileError", "Game", "Loss", "MoveRefused", "Moves", "Play", "PosgameError",
-           "ProgramMissing", "Rejected", "Report", "ReportedClaim", "Review", "RunFailed",
-           "Solution", "Trial", "solve_many"]
+__all__ = ["Claim", "FileError", "Game", "Limits", "Loss", "MoveRefused", "Moves", "Play",
+           "PosgameError", "ProgramMissing", "Rejected", "Report", "ReportedClaim", "Review",
+           "RunFailed", "Solution", "Split", "Trial", "settle_many", "solve_many"]

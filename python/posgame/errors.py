@@ -57,6 +57,14 @@ MEANINGS = {
     "F5": "the move cannot be played there",
     "F6": "there is no move to take back",
     "F7": "the record has too many events",
+    "P1": "the plan is too long",
+    "P2": "the first line of the plan is not a header",
+    "P3": "a line of the plan does not have one of the four forms",
+    "P4": "a number is missing or out of range, or a move has no colon",
+    "P5": "a position is named that does not come before the line",
+    "P6": "the plan has too many positions",
+    "plan: none for this game": "a switching game is decided without a search, and not split",
+    "plan: of another game, or too large": "the plan in the folder does not fit the game",
     "refused: taken": "the point is not free",
     "refused: no such point": "the number is not below the number of points",
     "refused: not a number": "the reply is no number",
@@ -92,7 +100,7 @@ class RunFailed(PosgameError):
 
 
 class FileError(PosgameError):
-    """An error of form in the game, the certificate or the record: its code and its line."""
+    """An error of form in a game, a certificate, a record or a plan: its code and its line."""
 
     def __init__(self, text: str, meaning: str = "", status: Optional[int] = None) -> None:
         super().__init__(text, meaning, status)
@@ -124,7 +132,7 @@ def error_of(text: str, status: Optional[int] = None) -> PosgameError:
     """
     words = text.split()
     code = words[1] if len(words) > 1 else ""
-    if re.fullmatch(r"(game|certificate|record) [GCF]\d+ line \d+", text):
+    if re.fullmatch(r"(game|certificate|record|plan) [GCFP]\d+ line \d+", text):
         return FileError(text, MEANINGS.get(code, ""), status)
     if re.fullmatch(r"rejected [JISV]\d+ claim \d+( node \d+)?", text):
         return Rejected(text, MEANINGS.get(code, ""), status)

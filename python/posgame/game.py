@@ -1,22 +1,23 @@
 """Games made by scripts, handed to the program, and its answers."""
 from __future__ import annotations
 
-import concurrent.futures
 import json
 import os
 import pathlib
 import re
-from typing import (Any, Dict, Generator, Hashable, Iterable, List, Mapping, Optional, Sequence,
-                    Tuple, Union)
+from typing import (TYPE_CHECKING, Any, Dict, Hashable, Iterable, List, Mapping, Optional,
+                    Sequence, Tuple, Union)
 
-from .errors import PosgameError, error_of
+from .errors import error_of
 from .programs import Run, answer_of, bytes_of, is_there, run, text_of
-from .results import Claim, Loss, Moves, Report, ReportedClaim, Review, Solution, Trial
+from .results import Claim, Limits, Loss, Moves, Report, ReportedClaim, Review, Solution, Trial
+
+if TYPE_CHECKING:
+    from .split import Split
 
 FAMILIES = {"posgame-span": "span", "posgame-vectors": "vec"}
 MOST_POINTS = 1_000  # No game of any kind has more.
 Path = Union[str, "os.PathLike[str]"]
-Answer = Union[Solution, PosgameError]
 
 
 class Game:
@@ -161,12 +162,12 @@ class Game:
         graphs and vectors, which are always decided.
 
         >>> Game.from_lines([[0, 1, 2], [2, 3, 4], [4, 5, 0]]).solve()
-        Solution(answer='breaker', positions=None)
+        Solution(answer='breaker', positions=None, limits=None)
         """
         is_searched = _header(self.text) not in FAMILIES
         words = ["solve", "GAME", "CERT"] + (["--images"] if images and is_searched else [])
         words += ["--positions", str(positions)] if positions is not None and is_searched else []
-        return self._solution(self._run(words))
+        return self._solution(self._run(words), Limits(positions))
 
     def settle(self, positions: Optional[int] = None, entries: Optional[int] = None,
                nodes: Optional[int] = None, images: bool = False) -> Solution:
@@ -177,7 +178,20 @@ class Game:
         `images` as in `solve`. It takes games on lines and switching games.
         """
         words = ["GAME", "CERT"] + (["--images"] if images else [])
-        return self._solution(self._settled(words, positions, entries, nodes))
+        limits = Limits(positions, entries, nodes)
+        return self._solution(self._settled(words + limits.words()), limits)
+
+    def split(self, folder: Path, most: Optional[int] = None) -> "Split":
+        """Splits the game by its moves into at most `most` positions, 1,000 if it is none, by
+        `posgame-settle split`. They are stored in a folder, which is made if it is not there.
+
+        In a folder into which the game was split before, those of its positions are split further
+        that have no certificate yet and can still matter.
+        """
+        from .split import Split
+        split = Split(self, folder)
+        split.further(most)
+        return split
 
     def moves(self, positions: Optional[int] = None, entries: Optional[int] = None,
               nodes: Optional[int] = None) -> Moves:
@@ -187,30 +201,27 @@ class Game:
         >>> Game.from_lines([["a", "b"], ["a", "c"], ["a", "d"]], turn="y").moves().best
         ('a',)
         """
-        words = ["moves", "GAME", "--json"]
-        said = json.loads(answer_of(self._settled(words, positions, entries, nodes), [0, 1]).text)
+        words = ["moves", "GAME", "--json", *Limits(positions, entries, nodes).words()]
+        said = json.loads(answer_of(self._settled(words), [0, 1]).text)
         trials = tuple(Trial(self.labels[move["point"]], move["result"], move["expanded"],
                              move.get("nodes")) for move in said["moves"])
         best = said["best"]
         return Moves(trials, None if best is None else tuple(self.labels[v] for v in best))
 
-    def _settled(self, words: List[str], positions: Optional[int], entries: Optional[int],
-                 nodes: Optional[int]) -> Run:
-        """Returns the run of `posgame-settle` on the game with these arguments and limits."""
-        limits = {"positions": positions, "entries": entries, "nodes": nodes}
-        words = words + [f"--{name}={limit}" for name, limit in limits.items()
-                         if limit is not None]
+    def _settled(self, words: List[str]) -> Run:
+        """Returns the run of `posgame-settle` on the game with these arguments."""
         done = run("posgame-settle", words, {"GAME": bytes_of(self.text)})
         if done.status == 2:
             raise error_of("words: no meaning", done.status)
         return done
 
-    def _solution(self, done: Run) -> Solution:
-        """Returns the answer of a run that solves the game."""
-        said = answer_of(done, [0, 1]).lines[0].split()
+    def _solution(self, done: Run, limits: Limits) -> Solution:
+        """Returns the answer of a run that solves the game within limits."""
+        lines = [line.split() for line in answer_of(done, [0, 1]).lines]
         if done.status == 1:
-            return Solution(self, "unknown", None, int(said[2]))
-        return Solution(self, said[1], text_of(done.certificate or b""))
+            return Solution(self, "unknown", None, int(lines[0][2]), limits)
+        expanded = int(lines[1][1]) if len(lines) > 1 else None
+        return Solution(self, lines[0][1], text_of(done.certificate or b""), expanded)
 
     def check(self, certificate: str) -> Tuple[Claim, ...]:
         """Checks a certificate by `posgame check`; returns its claims, or raises why it fails.
@@ -377,33 +388,6 @@ class Play:
         self.replies.pop()
         self._told = []
         self._moves(self._replay(self.replies))
-
-
-def solve_many(games: Union[Iterable[Game], Mapping[Any, Game]], jobs: Optional[int] = None,
-               positions: Optional[int] = None, images: bool = False) \
-        -> Generator[Tuple[Any, Answer], None, None]:
-    """Solves many games, `jobs` at a time, and yields each answer as soon as it is there.
-
-    `games` is a mapping, or a list, whose keys are the indices. Yields the key and the solution,
-    or the error that this game raised; the others are solved all the same. If the loop over the
-    answers is left early, no further game is begun.
-
-    >>> games = {n: Game.from_lines([range(n)]) for n in (1, 2)}
-    >>> sorted((n, solution.answer) for n, solution in solve_many(games, jobs=2))
-    [(1, 'maker'), (2, 'breaker')]
-    """
-    named = games if isinstance(games, Mapping) else dict(enumerate(games))
-    pool = concurrent.futures.ThreadPoolExecutor(max_workers=jobs or os.cpu_count())
-    try:
-        keys = {pool.submit(game.solve, positions, images): key for key, game in named.items()}
-        for future in concurrent.futures.as_completed(keys):
-            try:
-                answer: Answer = future.result()
-            except PosgameError as error:
-                answer = error
-            yield keys[future], answer
-    finally:
-        pool.shutdown(cancel_futures=True)
 
 
 def _spelled(said: Iterable[Iterable[str]]) -> str:

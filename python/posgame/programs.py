@@ -1,11 +1,13 @@
 """Finds the programs and runs them."""
 from __future__ import annotations
 
+import contextlib
 import os
 import pathlib
 import subprocess
 import tempfile
-from typing import Dict, Iterator, List, NamedTuple, Optional
+import threading
+from typing import Dict, Iterator, List, NamedTuple, Optional, Set, Tuple
 
 from .errors import STATUSES, ProgramMissing, RunFailed, error_of
 
@@ -15,6 +17,21 @@ NAMES = {
     "posgame-draw": ["posgame-draw", "posgame_draw", "posgame_draw/out/posgame_draw"],
     "posgame-settle": ["posgame-settle", "posgame_settle", "posgame_settle/out/posgame_settle"],
 }
+# Runs its arguments with the file TYPED as input, and exits with the same status, or 128 and the
+# number of a signal. As soon as its own input ends, which is a pipe of this process, it kills its
+# process group: if the pipe is closed, or this process died, however that was.
+KEEPER = """
+exec 3<&0
+"$@" < TYPED 3<&- &
+program=$!
+{ read -r line; kill -s KILL 0; } <&3 > /dev/null &
+keeper=$!
+wait "$program"
+status=$?
+kill -s KILL "$keeper"
+exit "$status"
+"""
+NOT_STARTED = (126, 127)  # The statuses of a shell that could not start a program.
 
 
 class Run(NamedTuple):
@@ -72,19 +89,94 @@ def text_of(data: bytes) -> str:
     return data.decode("ascii", "surrogateescape")
 
 
+class Runs:
+    """The runs that belong to one call: `end` ends those that go on, and no further one begins."""
+
+    def __init__(self) -> None:
+        self._lock = threading.Lock()
+        self._going: Set["subprocess.Popen[bytes]"] = set()
+        self.ended = False
+
+    def finish(self, command: List[str], folder: str) -> Tuple[bytes, int]:
+        """Runs a command in a folder; returns what it printed, and its status.
+
+        If this is interrupted, nothing of the run is left when it returns.
+        """
+        process = self._begin(command, folder)
+        assert process.stdout
+        try:
+            printed = process.stdout.read()
+            status = process.wait()
+            return printed, 128 - status if status > 128 else status
+        finally:
+            self._let_go(process)
+
+    def end(self) -> None:
+        """Ends all runs that go on."""
+        with self._lock:
+            self.ended = True
+            for process in self._going:
+                _close(process)
+
+    def _begin(self, command: List[str], folder: str) -> "subprocess.Popen[bytes]":
+        """Starts a command in a process group of its own."""
+        with self._lock:
+            if self.ended:
+                raise RunFailed("ended", "the call to which the run belongs has ended")
+            process = subprocess.Popen(["/bin/sh", "-c", KEEPER, "sh", *command], cwd=folder,
+                                       stdin=subprocess.PIPE, stdout=subprocess.PIPE,
+                                       stderr=subprocess.DEVNULL, start_new_session=True)
+            self._going.add(process)
+            return process
+
+    def _let_go(self, process: "subprocess.Popen[bytes]") -> None:
+        """Ends a run if it goes on, and waits until no process of it has its output any more."""
+        with self._lock:
+            self._going.discard(process)
+            _close(process)
+        assert process.stdout
+        process.stdout.read()
+        process.stdout.close()
+        process.wait()
+
+
+def _close(process: "subprocess.Popen[bytes]") -> None:
+    """Closes the pipe on which a run depends."""
+    assert process.stdin
+    process.stdin.close()
+
+
+_here = threading.local()  # The runs to which those of this thread belong.
+
+
+@contextlib.contextmanager
+def belonging_to(runs: Runs) -> Iterator[None]:
+    """Lets the runs that this thread begins belong to others."""
+    _here.runs = runs
+    try:
+        yield
+    finally:
+        del _here.runs
+
+
 def run(program: str, words: List[str], files: Dict[str, bytes], typed: str = "") -> Run:
-    """Runs a program in a folder of its own that contains these files."""
+    """Runs a program in a folder of its own that contains these files.
+
+    The run ends with this call, also if it is interrupted or this process dies.
+    """
+    runs: Runs = getattr(_here, "runs", None) or Runs()
     with tempfile.TemporaryDirectory(prefix="posgame-") as folder:
-        for name, data in files.items():
+        for name, data in {**files, "TYPED": typed.encode()}.items():
             pathlib.Path(folder, name).write_bytes(data)
         try:
-            done = subprocess.run([find(program), *words], cwd=folder, input=typed.encode(),
-                                  stdout=subprocess.PIPE, stderr=subprocess.DEVNULL, check=False)
+            printed, status = runs.finish([find(program), *words], folder)
         except (OSError, ValueError) as error:  # As for a word with a byte 0 in it.
             raise RunFailed(str(error), f"{program} could not be started") from error
+        if status in NOT_STARTED:
+            raise RunFailed(f"status {status}", f"{program} could not be started", status)
         stored = pathlib.Path(folder, "CERT")
         certificate = stored.read_bytes() if stored.is_file() else None
-        return Run(done.stdout.decode("latin-1"), done.returncode, certificate)
+        return Run(printed.decode("latin-1"), status, certificate)
 
 
 def answer_of(done: Run, accepted: List[int]) -> Run:

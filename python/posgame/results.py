@@ -3,8 +3,8 @@ from __future__ import annotations
 
 import os
 import pathlib
-from dataclasses import dataclass, field
-from typing import TYPE_CHECKING, Hashable, Iterable, Optional, Tuple, Union
+from dataclasses import asdict, dataclass, field
+from typing import TYPE_CHECKING, Hashable, Iterable, List, Optional, Tuple, Union
 
 from .errors import PosgameError
 from .programs import bytes_of
@@ -25,12 +25,34 @@ class Claim:
 
 
 @dataclass(frozen=True)
+class Limits:
+    """The limits that were given to a search, all of them counts: the positions that it expands,
+    those that it keeps at a time, and the nodes of the certificate.
+
+    If one is none, the program has a limit of its own (docs/FORMATS.md).
+    """
+    positions: Optional[int] = None
+    entries: Optional[int] = None
+    nodes: Optional[int] = None
+
+    def words(self) -> List[str]:
+        """Returns the options of `posgame-settle` for these limits.
+
+        >>> Limits(positions=500).words()
+        ['--positions=500']
+        """
+        return [f"--{name}={limit}" for name, limit in asdict(self).items() if limit is not None]
+
+
+@dataclass(frozen=True)
 class Solution:
-    """The answer of `Game.solve` or `Game.settle`, with its proof.
+    """The answer of `Game.solve`, `Game.settle` or `Split.join`, with its proof.
 
     `answer` is the winner ("maker", "breaker", "x", "y", "avoider", "enforcer"), "draw", a class
-    ("short", "cut", "maker", "breaker", "first-mover"), or "unknown". Then `positions` is how many
-    positions were expanded, and `certificate` is none.
+    ("short", "cut", "maker", "breaker", "first-mover"), or "unknown". `positions` is how many
+    positions were expanded; none if the program does not print it: `posgame solve` does for an
+    unknown answer alone, and `posgame-settle` for all but classes. Of an unknown answer,
+    `certificate` is none, and `limits` are those that were given.
 
     >>> from posgame import Game
     >>> solution = Game.from_lines([[0, 1], [0, 2]]).solve()
@@ -41,6 +63,7 @@ class Solution:
     answer: str
     certificate: Optional[str] = field(default=None, repr=False)
     positions: Optional[int] = None
+    limits: Optional[Limits] = None
 
     @property
     def decided(self) -> bool:

@@ -10,15 +10,15 @@ import subprocess
 import tempfile
 import unittest
 import xml.dom.minidom
-from typing import Callable, List, Optional
+from typing import Callable, List
 from unittest import mock
 
 import posgame
 import posgame.errors
 import posgame.game
+import posgame.many
 import posgame.results
-from posgame import (FileError, Game, MoveRefused, PosgameError, Rejected, RunFailed, Solution,
-                     solve_many)
+from posgame import FileError, Game, Limits, MoveRefused, PosgameError, Rejected, RunFailed
 from posgame.programs import Run, answer_of, find, is_there
 
 from beside import EXAMPLES, TOP
@@ -143,6 +143,7 @@ class Answers(unittest.TestCase):
         solution = Game.from_lines(ROWS, kind="maker-maker").solve(positions=1)
         self.assertEqual((solution.answer, solution.positions, solution.decided),
                          ("unknown", 1, False))
+        self.assertEqual(solution.limits, Limits(positions=1))
 
     def test_settled(self) -> None:
         if not is_there("posgame-settle"):
@@ -151,15 +152,19 @@ class Answers(unittest.TestCase):
         for images in (False, True):
             solution = game.settle(entries=100_000, images=images)
             self.assertEqual((solution.answer, solution.decided), ("draw", True))
+            self.assertGreater(solution.positions or 0, 0)
+            self.assertIsNone(solution.limits)
             self.assertEqual(solution.check(), solution.check_again())
         solution = game.settle(positions=1)
         self.assertEqual((solution.answer, solution.positions, solution.decided),
                          ("unknown", 1, False))
+        self.assertEqual(solution.limits, Limits(positions=1))
         with self.assertRaises(RunFailed) as raised:
             game.settle(nodes=0)
         self.assertEqual((raised.exception.text, raised.exception.status), ("words: no meaning", 2))
         edges = [(0, 1), (0, 1)]
-        self.assertEqual(Game.from_graph(edges, terminals=(0, 1)).settle().answer, "short")
+        solution = Game.from_graph(edges, terminals=(0, 1)).settle()
+        self.assertEqual((solution.answer, solution.positions), ("short", None))
         with self.assertRaises(FileError):
             Game.from_graph(edges).settle()
 
@@ -211,32 +216,12 @@ class Answers(unittest.TestCase):
         review = game.review([4], positions=1)
         self.assertEqual((review.moves, review.open_at, review.positions), (None, 0, 1))
 
-    def test_many(self) -> None:
-        games = {"good": Game.from_lines(FANO), "bad": Game("posgame 1\nkind chess\n")}
-        answers = dict(solve_many(games, jobs=2))
-        self.assertEqual(answers["good"].answer, "maker")
-        self.assertIsInstance(answers["bad"], FileError)
-
     def test_options_of_families(self) -> None:
         for game in (Game.from_graph([(0, 1), (0, 1)]), Game.from_vectors(["1", "1"], "1"),
                      Game.from_graph([(0, 1), (0, 1)], terminals=(0, 1))):
             solution = game.solve(positions=1, images=True)
             self.assertEqual((solution.answer in ("maker", "short"), solution.check()),
                              (True, solution.check_again()))
-
-    def test_many_left_early(self) -> None:
-        begun = []
-
-        class Noted(Game):
-            """A game that notes when it is solved."""
-
-            def solve(self, positions: Optional[int] = None, images: bool = False) -> Solution:
-                begun.append(self)
-                return super().solve(positions, images)
-        answers = solve_many([Noted.from_lines([[n]]) for n in range(20)], jobs=1)
-        self.assertIsInstance(next(answers)[1], Solution)
-        answers.close()
-        self.assertLess(len(begun), 20)
 
     def test_files_of_a_proof(self) -> None:
         solution = Game.from_lines(FANO).solve()
@@ -322,7 +307,7 @@ class Errors(unittest.TestCase):
         self.assertEqual(raised.exception.text, "record F5 line 3")
 
     def test_meanings_are_complete(self) -> None:
-        counts = {"G": 14, "C": 6, "J": 13, "I": 4, "S": 3, "V": 5, "F": 7}
+        counts = {"G": 14, "C": 6, "J": 13, "I": 4, "S": 3, "V": 5, "F": 7, "P": 6}
         for letter, count in counts.items():
             for number in range(1, count + 1):
                 self.assertIn(f"{letter}{number}", posgame.errors.MEANINGS)
@@ -452,7 +437,7 @@ class Examples(unittest.TestCase):
     """The examples of the docstrings, and those of docs/PYTHON.md."""
 
     def test_docstrings(self) -> None:
-        for module in (posgame, posgame.game, posgame.errors, posgame.results):
+        for module in (posgame, posgame.game, posgame.many, posgame.errors, posgame.results):
             done = doctest.testmod(module)
             self.assertEqual(done.failed, 0)
             self.assertGreater(done.attempted, 0)
@@ -464,13 +449,15 @@ class Examples(unittest.TestCase):
         here = os.getcwd()
         chosen = {name: os.path.abspath(os.environ[name]) for name in ("POSGAME",)
                   if os.environ.get(name)}
+        chosen["PYTHONPATH"] = str(TOP / "python")  # For the processes that the page begins.
         with tempfile.TemporaryDirectory() as folder, mock.patch.dict(os.environ, chosen):
             os.chdir(folder)
             try:
                 done = doctest.testfile(str(TOP / "docs" / "PYTHON.md"), module_relative=False)
             finally:
                 os.chdir(here)
-            names = ["answers.html", "fano.cert", "fano.game", "fano.svg", "puzzles.html"]
+            names = ["answers.html", "fano.cert", "fano.game", "fano.svg", "pieces",
+                     "puzzles.html", "triangles"]
             self.assertEqual(sorted(os.listdir(folder)), names)
         self.assertGreater(done.attempted, 10)
         self.assertEqual(done.failed, 0)
