@@ -53,15 +53,16 @@ class Split:
         """Settles the needed parts by `settle_many`, and stores each certificate as soon as it is
         there; then yields the name of the part and the answer."""
         for name, answer in settle_many(self.needed(), jobs, positions, entries, nodes):
-            if isinstance(answer, Solution) and answer.decided:
-                self.store(name, answer)
+            self.store(name, answer)
             yield name, answer
 
-    def store(self, name: str, solution: Solution) -> None:
-        """Stores the certificate of a part, whole or not at all."""
+    def store(self, name: str, answer: Answer) -> None:
+        """Stores the certificate of a part, whole or not at all; nothing if it is not decided."""
+        if not isinstance(answer, Solution) or not answer.decided:
+            return
         hidden = self.folder / f".{name}.{platform.node()}.{os.getpid()}"
         try:
-            solution.write(hidden)
+            answer.write(hidden)
             hidden.replace(self.folder / f"{name}.cert")
         finally:
             hidden.unlink(missing_ok=True)

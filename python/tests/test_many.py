@@ -146,6 +146,7 @@ class Splitting(unittest.TestCase):
         before = len(split.parts())
         for _, answer in split.settle(positions=1):
             self.assertEqual(getattr(answer, "answer"), "unknown")
+        split.store("00001", FileError("game G6 line 4"))
         self.assertEqual(list(self.folder.glob("*.cert")), [])
         self.assertGreater(split.further(most=20), 0)
         self.assertGreater(len(split.parts()), before)
