@@ -162,7 +162,7 @@ class Game:
         graphs and vectors, which are always decided.
 
         >>> Game.from_lines([[0, 1, 2], [2, 3, 4], [4, 5, 0]]).solve()
-        Solution(answer='breaker', positions=None, limits=None)
+        Solution(answer='breaker', positions=None)
         """
         is_searched = _header(self.text) not in FAMILIES
         words = ["solve", "GAME", "CERT"] + (["--images"] if images and is_searched else [])

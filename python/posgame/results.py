@@ -63,7 +63,7 @@ class Solution:
     answer: str
     certificate: Optional[str] = field(default=None, repr=False)
     positions: Optional[int] = None
-    limits: Optional[Limits] = None
+    limits: Optional[Limits] = field(default=None, repr=False)
 
     @property
     def decided(self) -> bool:
