@@ -3,7 +3,8 @@
 looks for answers that none may give.
 
     bench/fuzz.py [PROGRAM] [--part PART] [--settle PROGRAM] [--draw PROGRAM] [--play PROGRAM]
-                  [--runs N] [--seed N] [--first N] [--slower X] [--keep FOLDER] [--pairs FILE]
+                  [--runs N] [--cases N] [--seed N] [--first N] [--slower X] [--quick]
+                  [--keep FOLDER] [--pairs FILE]
 
 PROGRAM is posgame. A part is `posgame` (if left out), `settle`, `draw` or `play` for the other
 programs, `python` for the Python package, or `page` for what of the page runs in node. Each case is
@@ -25,7 +26,8 @@ What it finds is printed with the number of its case: `--seed S --first K --runs
 case and shows its files; --keep stores them in a folder of the case's number. A line on standard
 error says from time to time which case comes next, from which a run can be gone on with (--first).
 The pairs of files that are mutated are the same to the byte in each run; with --pairs they are
-stored in a file, or taken from it, which saves some seconds. The status is 1 if it finds something.
+stored in a file, or taken from it, which saves some seconds. With --quick a run takes less time,
+and its memory is never below that of this script. The status is 1 if it finds something.
 Tried by `bench/test_fuzz.py`. Unproved.
 """
 from __future__ import annotations
@@ -260,7 +262,8 @@ def run_cases(given: Any, tools: Tools) -> tuple[list[str], int]:
     cases, takes_all = cases_of(given.part)
     pairs = kept_pairs(tools.posgame, given.pairs)
     wrong, number, begun = list[str](), given.first, len(tools.runs)
-    while len(tools.runs) - begun < given.runs:
+    while number - given.first < given.cases if given.cases else \
+            len(tools.runs) - begun < given.runs:
         prefix = "" if given.part == "posgame" else f"{given.part} "
         draw = random.Random(f"{prefix}{given.seed} {number}")
         case: Any = draw.choice(cases)
@@ -285,16 +288,18 @@ def run_cases(given: Any, tools: Tools) -> tuple[list[str], int]:
 def main() -> int:
     given = kit.options(
         __doc__, runs=(20_000, "so many runs, or a few more"), seed=1,
+        cases=(0, "so many cases, however many runs these are"),
         part=("posgame", ", ".join(PARTS)), keep=(None, "where files of findings are stored"),
         first=(0, "the number of the first case"),
         pairs=(None, "where the pairs of the examples are kept from run to run"),
         slower=(1.0, "how many times as slow the machine or the program is"),
+        quick=(False, "measure no memory below this script's"),
         **{it: (str(kit.built(f"posgame_{it}")), f"the program posgame-{it}")
            for it in ("settle", "draw", "play")})
     os.environ["POSGAME"] = given.program
     os.environ.pop("COLUMNS", None)
     with kit.files() as folder:
-        tools = Tools(*(Program(os.path.abspath(path), folder, name, given.slower)
+        tools = Tools(*(Program(os.path.abspath(path), folder, name, given.slower, given.quick)
                         for path, name in ((given.program, "posgame"),
                                            (given.settle, "posgame-settle"),
                                            (given.draw, "posgame-draw"),

@@ -19,6 +19,7 @@ import os
 import pathlib
 import random
 import re
+import resource
 import shutil
 import signal
 import subprocess
@@ -131,12 +132,12 @@ class Run(NamedTuple):
 
 
 def run(*words: object, typed: str | bytes = "", folder: object = None, most: int = 0,
-        clock: int = 0, **how: Any) -> Run:
+        clock: int = 0, is_quick: bool = False, **how: Any) -> Run:
     """Runs a program with `typed` as its input, for at most `most` seconds of a processor and
     `clock` by the clock if these aren't 0. It is started by time(1), since a child of this script
-    would count the script's memory."""
-    timed = ["/usr/bin/time", "-q", "-f", "%M"]
-    timed += ["sh", "-c", f'ulimit -St {most}; exec "$@"', "sh"] if most else []
+    counts the script's memory; a quick run is such a child."""
+    timed = [] if is_quick else ["/usr/bin/time", "-q", "-f", "%M"]
+    timed += ["sh", "-c", f'ulimit -St {most}; exec "$@"', "sh"] if most and timed else []
     with tempfile.TemporaryFile() as given, tempfile.TemporaryFile("w+") as errors:
         given.write(typed.encode() if isinstance(typed, str) else typed)
         given.seek(0)
@@ -144,6 +145,9 @@ def run(*words: object, typed: str | bytes = "", folder: object = None, most: in
         process = subprocess.Popen(
             [*timed, *map(str, words)], cwd=str(folder) if folder else None, stdin=given,
             stdout=subprocess.PIPE, stderr=errors, start_new_session=clock > 0, **how)
+        if is_quick and most:
+            _, hard = resource.prlimit(process.pid, resource.RLIMIT_CPU)
+            resource.prlimit(process.pid, resource.RLIMIT_CPU, (most, hard))
         late = threading.Timer(clock, os.killpg, (process.pid, signal.SIGKILL))
         if clock:
             late.start()
@@ -154,7 +158,8 @@ def run(*words: object, typed: str | bytes = "", folder: object = None, most: in
         late.cancel()
         seconds, process.returncode = time.monotonic() - begin, os.waitstatus_to_exitcode(ended)
         errors.seek(0)
-        said = re.fullmatch(r"(.*?)(?:(\d+)\n)?", errors.read(), re.DOTALL)
+        text = f"{errors.read()}{used.ru_maxrss}\n" if is_quick else errors.read()
+        said = re.fullmatch(r"(.*?)(?:(\d+)\n)?", text, re.DOTALL)
         assert said
     status = process.returncode if process.returncode <= 128 else 128 - process.returncode
     processor = used.ru_utime + used.ru_stime

@@ -183,14 +183,15 @@ class Program:
     """A program and its runs in one folder, which has the files of the case that is tried."""
 
     def __init__(self, path: str, folder: pathlib.Path, name: str = "posgame",
-                 slower: float = 1) -> None:
+                 slower: float = 1, is_quick: bool = False) -> None:
         self.path, self.folder, self.name, self.slower = path, folder, name, slower
+        self.is_quick = is_quick
         self.runs: list[kit.Run] = []
 
     def run(self, words: list[str], typed: bytes = b"") -> kit.Run:
         """Runs the program."""
         self.runs.append(kit.run(
-            self.path, *words, typed=typed, folder=self.folder,
+            self.path, *words, typed=typed, folder=self.folder, is_quick=self.is_quick,
             most=int(SECONDS * self.slower) + 1, clock=int(BY_THE_CLOCK * self.slower)))
         return self.runs[-1]
 

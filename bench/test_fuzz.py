@@ -6,8 +6,10 @@ from __future__ import annotations
 import pathlib
 import random
 import shutil
+import types
 import unittest
 from typing import Optional
+from unittest import mock
 
 import fuzz
 import fuzz_programs
@@ -171,6 +173,24 @@ class Cases(unittest.TestCase):
                 for _ in range(2)]
         self.assertEqual(made[0], made[1])
         self.assertGreater(len(set(made[0])), 20)
+
+    def test_so_many_cases(self) -> None:
+        given = types.SimpleNamespace(part="posgame", seed=2, first=7, keep=None, pairs=None)
+        drawn, tools = list[float](), types.SimpleNamespace(runs=[], posgame=mutants.Program(
+            "missing", pathlib.Path("missing"), is_quick=True))
+
+        def case(draw: random.Random, *_: object) -> list[str]:
+            drawn.append(draw.random())
+            tools.runs.extend([0, 0])
+            return []
+
+        with mock.patch.multiple(fuzz, kept_pairs=lambda *_: {}, cases_of=lambda _: ([case], False),
+                                 held=lambda _: {}):
+            for runs, cases, due in ((5, 0, 10), (5, 4, 11), (1, 4, 11)):
+                found = fuzz.run_cases(types.SimpleNamespace(**vars(given), runs=runs, cases=cases),
+                                       tools)
+                self.assertEqual(found, ([], due))
+        self.assertEqual(len(set(drawn)), 4)
 
     def test_disagreements(self) -> None:
         ends = {"check": (4, "rejected J6 claim 0 node 7\n"), "play": (4, "rejected J6 claim 0 "

@@ -95,6 +95,15 @@ class Runs(unittest.TestCase):
         late = self.python("import time; time.sleep(9)", clock=1)
         self.assertEqual((late.status, late.seconds < 9), (-9, True))
 
+    def test_quick_runs(self) -> None:
+        done = self.python("import sys; print(1, file=sys.stderr); print(input()); sys.exit(7)",
+                           typed="ab\n", is_quick=True, most=9, clock=9)
+        self.assertEqual((done.output, done.errors, done.status), ("ab\n", "1\n", 7))
+        self.assertGreater(done.kilobytes, 1000)
+        self.assertEqual(self.python("while True: pass", most=1, is_quick=True).status, -24)
+        late = self.python("import time; time.sleep(9)", clock=1, is_quick=True)
+        self.assertEqual((late.status, late.seconds < 9), (-9, True))
+
     def test_errors_and_bytes(self) -> None:
         done = self.python("import sys; sys.stderr.write(ascii(sys.stdin.buffer.read()))",
                            typed=b"\xff7", clock=9)
