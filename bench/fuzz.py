@@ -3,8 +3,8 @@
 looks for answers that none may give.
 
     bench/fuzz.py [PROGRAM] [--part PART] [--settle PROGRAM] [--draw PROGRAM] [--play PROGRAM]
-                  [--runs N] [--cases N] [--seed N] [--first N] [--slower X] [--quick]
-                  [--keep FOLDER] [--pairs FILE]
+                  [--runs N] [--cases N] [--seed N] [--first N] [--slower X] [--clock N]
+                  [--quick] [--keep FOLDER] [--pairs FILE]
 
 PROGRAM is posgame. A part is `posgame` (if left out), `settle`, `draw` or `play` for the other
 programs, `python` for the Python package, or `page` for what of the page runs in node. Each case is
@@ -14,7 +14,7 @@ changes of bytes, words (of bench/fuzz.txt), numbers and lines. It looks for
 
 - an end by a signal, a status that the command can't have there, and a text that it doesn't have;
 - anything on standard error that isn't the program's to say, more than two processor seconds, or
-  thirty by the clock (times --slower), or 200 MB;
+  than thirty or --clock by the clock (each times --slower), or than 200 MB;
 - a file that was changed and isn't what the command writes, or at a status that leaves it;
 - arguments that have a meaning and are refused, or the other way round, by a reading of its own;
 - commands, programs, the second checker, and readers of its own (small_files.py) that answer
@@ -42,8 +42,9 @@ import sys
 from typing import Any, Callable, NamedTuple, Optional
 
 import kit
-from mutants import (FAMILY_KEYS, FAMILY_SIGNS, FURTHER, KEYS, NAMES, NUMBERS, SIGNS, WORDS, Draw,
-                     Pairs, Program, held, mutated, record_of, typed_lines, write, wrongs)
+from mutants import (BY_THE_CLOCK, FAMILY_KEYS, FAMILY_SIGNS, FURTHER, KEYS, NAMES, NUMBERS, SIGNS,
+                     WORDS, Draw, Pairs, Program, held, mutated, record_of, typed_lines, write,
+                     wrongs)
 from small_files import game_of, record_fault, verdict_of
 
 sys.path.insert(0, str(kit.TOP / "python" / "tests"))
@@ -293,13 +294,15 @@ def main() -> int:
         first=(0, "the number of the first case"),
         pairs=(None, "where the pairs of the examples are kept from run to run"),
         slower=(1.0, "how many times as slow the machine or the program is"),
+        clock=(BY_THE_CLOCK, "the seconds by the clock that a run may take, times --slower"),
         quick=(False, "measure no memory below this script's"),
         **{it: (str(kit.built(f"posgame_{it}")), f"the program posgame-{it}")
            for it in ("settle", "draw", "play")})
     os.environ["POSGAME"] = given.program
     os.environ.pop("COLUMNS", None)
     with kit.files() as folder:
-        tools = Tools(*(Program(os.path.abspath(path), folder, name, given.slower, given.quick)
+        tools = Tools(*(Program(os.path.abspath(path), folder, name, given.slower, given.quick,
+                                given.clock)
                         for path, name in ((given.program, "posgame"),
                                            (given.settle, "posgame-settle"),
                                            (given.draw, "posgame-draw"),

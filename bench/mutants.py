@@ -3,6 +3,7 @@ and what is wrong with a run. The words and patterns are in bench/fuzz.txt. Unpr
 """
 from __future__ import annotations
 
+import functools
 import getopt
 import os
 import pathlib
@@ -35,6 +36,7 @@ KEEPS = {"solve": (1, 2, 3, 4), "record": (2, 3, 4, 9), "settle": (1, 2, 3, 4, 5
 COMPLAINTS = 2, 5, 6, 7
 
 
+@functools.cache
 def whole(pattern: str) -> str:
     """The pattern with its named parts in place of their names."""
     for name in reversed(PATTERNS):
@@ -42,6 +44,7 @@ def whole(pattern: str) -> str:
     return pattern
 
 
+@functools.cache
 def due(command: str, status: int) -> Optional[str]:
     """The pattern of what a command may print at a status, or None if it can't have that."""
     texts = [text.strip() for commands, statuses, text in (it.split(":", 2) for it in DUES)
@@ -183,23 +186,29 @@ class Program:
     """A program and its runs in one folder, which has the files of the case that is tried."""
 
     def __init__(self, path: str, folder: pathlib.Path, name: str = "posgame",
-                 slower: float = 1, is_quick: bool = False) -> None:
+                 slower: float = 1, is_quick: bool = False, clock: int = BY_THE_CLOCK) -> None:
         self.path, self.folder, self.name, self.slower = path, folder, name, slower
-        self.is_quick = is_quick
+        self.is_quick, self.clock = is_quick, clock
         self.runs: list[kit.Run] = []
 
     def run(self, words: list[str], typed: bytes = b"") -> kit.Run:
         """Runs the program."""
         self.runs.append(kit.run(
             self.path, *words, typed=typed, folder=self.folder, is_quick=self.is_quick,
-            most=int(SECONDS * self.slower) + 1, clock=int(BY_THE_CLOCK * self.slower)))
+            most=int(SECONDS * self.slower) + 1, clock=int(self.clock * self.slower)))
         return self.runs[-1]
 
 
-def held(folder: pathlib.Path) -> dict[str, Optional[bytes]]:
-    """What each name in the folder holds."""
-    return {str(it.relative_to(folder)): it.read_bytes() if it.is_file() else None
-            for it in folder.rglob("*")}
+def held(folder: str | pathlib.Path, above: str = "") -> dict[str, Optional[bytes]]:
+    """What each name in the folder holds, the folder's own after those `above` it."""
+    found = dict[str, Optional[bytes]]()
+    for it in os.scandir(folder):
+        if it.is_dir():
+            found |= {above + it.name: None, **held(it.path, f"{above}{it.name}/")}
+        else:
+            with open(it.path, "rb") as file:
+                found[above + it.name] = file.read()
+    return found
 
 
 def changes(before: dict[str, Optional[bytes]], after: dict[str, Optional[bytes]], command: str,

@@ -235,6 +235,13 @@ class Cases(unittest.TestCase):
         self.assertEqual((shown["text"], shown["places"]), (GAME.decode(), ""))
         self.assertRegex(shown["fault"], "claim 0, node 0: .*J6")
 
+    def test_what_a_folder_holds(self) -> None:
+        with kit.files() as folder:
+            mutants.write(folder, G=b"g", ä=b"")
+            (folder / "folder" / "plan").write_bytes(b"p")
+            self.assertEqual(mutants.held(folder), {
+                "G": b"g", "O": b"other", "ä": b"", "folder": None, "folder/plan": b"p"})
+
     def test_files_of_findings(self) -> None:
         with kit.files() as folder:
             fuzz.keep(folder / "case", {"G": b"g", "folder": None, "folder/plan": b"p"}, ["why"])
