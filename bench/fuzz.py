@@ -27,7 +27,7 @@ case and shows its files; --keep stores them in a folder of the case's number. A
 error says from time to time which case comes next, from which a run can be gone on with (--first).
 The pairs of files that are mutated are the same to the byte in each run; with --pairs they are
 stored in a file, or taken from it, which saves some seconds. With --quick a run takes less time,
-and its memory is never below that of this script. The status is 1 if it finds something.
+and its memory is 0 unless it is above that of this script. The status is 1 if it finds something.
 Tried by `bench/test_fuzz.py`. Unproved.
 """
 from __future__ import annotations
@@ -295,7 +295,7 @@ def main() -> int:
         pairs=(None, "where the pairs of the examples are kept from run to run"),
         slower=(1.0, "how many times as slow the machine or the program is"),
         clock=(BY_THE_CLOCK, "the seconds by the clock that a run may take, times --slower"),
-        quick=(False, "measure no memory below this script's"),
+        quick=(False, "measure no memory that isn't above this script's"),
         **{it: (str(kit.built(f"posgame_{it}")), f"the program posgame-{it}")
            for it in ("settle", "draw", "play")})
     os.environ["POSGAME"] = given.program

@@ -135,7 +135,7 @@ def run(*words: object, typed: str | bytes = "", folder: object = None, most: in
         clock: int = 0, is_quick: bool = False, **how: Any) -> Run:
     """Runs a program with `typed` as its input, for at most `most` seconds of a processor and
     `clock` by the clock if these aren't 0. It is started by time(1), since a child of this script
-    counts the script's memory; a quick run is such a child."""
+    counts the script's memory; a quick run is such a child, and takes 0 KB if it took no more."""
     timed = [] if is_quick else ["/usr/bin/time", "-q", "-f", "%M"]
     timed += ["sh", "-c", f'ulimit -St {most}; exec "$@"', "sh"] if most and timed else []
     with tempfile.TemporaryFile() as given, tempfile.TemporaryFile("w+") as errors:
@@ -158,7 +158,10 @@ def run(*words: object, typed: str | bytes = "", folder: object = None, most: in
         late.cancel()
         seconds, process.returncode = time.monotonic() - begin, os.waitstatus_to_exitcode(ended)
         errors.seek(0)
-        text = f"{errors.read()}{used.ru_maxrss}\n" if is_quick else errors.read()
+        least = resource.getrusage(resource.RUSAGE_SELF).ru_maxrss
+        text = errors.read()
+        if is_quick:
+            text += f"{used.ru_maxrss if used.ru_maxrss > least else 0}\n"
         said = re.fullmatch(r"(.*?)(?:(\d+)\n)?", text, re.DOTALL)
         assert said
     status = process.returncode if process.returncode <= 128 else 128 - process.returncode

@@ -29,6 +29,8 @@ KEYS, SIGNS, FAMILY_KEYS, FAMILY_SIGNS, FURTHER, NUMBERS, NAMES, WORDS, OTHER_WO
 PATTERNS = dict(it.split(" ", 1) for it in SHARED)
 NAMES += ["", "no folder/new", "x" * 300, "G\udcff"]
 TYPED = ["", " 3\t", "x", "00", "9" * 70, "-1", "3 4", "\0", "ä", "1" * 64]
+# Numbers of more digits aren't changed: Python reads none of more than 4,300.
+DIGITS = 4_000
 # At which statuses each command leaves the files that it may write, and all others at each status.
 KEEPS = {"solve": (1, 2, 3, 4), "record": (2, 3, 4, 9), "settle": (1, 2, 3, 4, 5, 7),
          "join": (1, 2, 3, 4, 5, 7), "split": (2, 3, 4), "table": (2, 3, 4, 12)}
@@ -123,19 +125,24 @@ def is_help(words: Sequence[str]) -> bool:
     return any(it in ("--help", "-h", "--version", "-V") for it in before)
 
 
+# The commands of posgame-settle that are words, which stand before all options.
+COMMANDS = "moves", "split", "join"
 LIMITS = {"positions": (1, 100_000_000), "entries": (1, 100_000_000), "nodes": (1, 200_000),
           "most": (1, 10_000)}
 
 
 def of_settle(words: list[str]) -> Meaning:
     """What the arguments of posgame-settle mean: the command is its first word, if it is one."""
-    command = words[0] if words and words[0] in ("moves", "split", "join") else "settle"
+    command = words[0] if words and words[0] in COMMANDS else "settle"
     valued = {"split": "most", "join": "nodes"}.get(command, "positions entries nodes")
     flags = {"settle": "images json progress", "moves": "json progress", "split": "",
              "join": "images"}[command]
     given = given_in(words if command == "settle" else words[1:], flags, valued)
     count = {"settle": 2, "moves": 1, "split": 2, "join": 3}[command]
     if not given or len(given[1]) != count or not are_numbers(given[0], LIMITS):
+        return NOTHING
+    before = given_in(words[:words.index("--")], flags, valued) if "--" in words else given
+    if command == "settle" and before and before[1][:1] and before[1][0] in COMMANDS:
         return NOTHING
     return command, [] if command == "moves" else given[1][-1:]
 
@@ -285,12 +292,17 @@ def lines_moved(draw: Draw, data: bytes, _: list[str]) -> bytes:
     return b"\n".join(lines)
 
 
+def changed(number: bytes, more: int) -> bytes:
+    """A number that is so much higher, and not below 0; the same if it has very many digits."""
+    return b"%d" % max(0, int(number) + more) if len(number) <= DIGITS else number
+
+
 def words_changed(draw: Draw, data: bytes, pool: list[str]) -> bytes:
     """One word changed."""
     parts = re.split(rb"([ \n|:-])", data)
     place, how = draw.randrange(len(parts)), draw.randrange(4)
     if how == 0 and parts[place].isdigit():
-        parts[place] = b"%d" % max(0, int(parts[place]) + draw.choice((-1, 1, 1, 7, 100)))
+        parts[place] = changed(parts[place], draw.choice((-1, 1, 1, 7, 100)))
     else:
         parts[place] = draw.choice(parts) if how == 1 else draw.choice(pool + NUMBERS).encode()
     return b"".join(parts)
@@ -301,7 +313,7 @@ def numbers_changed(draw: Draw, data: bytes, _: list[str]) -> bytes:
     parts = re.split(rb"(\d+)", data)
     if len(parts) > 1:
         place = draw.randrange(1, len(parts), 2)
-        parts[place] = b"%d" % max(0, int(parts[place]) + draw.choice((-1, 1)))
+        parts[place] = changed(parts[place], draw.choice((-1, 1)))
     return b"".join(parts)
 
 

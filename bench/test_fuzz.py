@@ -80,6 +80,8 @@ class Arguments(unittest.TestCase):
     def test_posgame(self) -> None:
         for words, due in (("solve G C --images --positions=5", ("solve", ["C"])),
                            ("solve G C --images=", ("", [])), ("check G C --images", ("", [])),
+                           ("solve --images G C --images", ("", [])),
+                           ("--images solve G --positions=5 C", ("solve", ["C"])),
                            ("record G R", ("record", ["R"])), ("review --positions 7 G R",
                                                               ("review", [])),
                            ("span solve G C", ("span solve", ["C"])), ("", ("", [])),
@@ -94,6 +96,8 @@ class Arguments(unittest.TestCase):
                            ("split G D --most=10001", mutants.NOTHING),
                            ("join G D C --images", ("join", ["C"])), ("-- moves G",
                                                                     ("settle", ["G"])),
+                           ("--progress moves G", mutants.NOTHING), ("G moves --json",
+                                                                     ("settle", ["moves"])),
                            ("G C --positions -3", mutants.NOTHING), ("G --help", ("help", []))):
             self.assertEqual(self.meaning("posgame-settle", words), due, words)
 
@@ -191,6 +195,13 @@ class Cases(unittest.TestCase):
                                        tools)
                 self.assertEqual(found, ([], due))
         self.assertEqual(len(set(drawn)), 4)
+
+    def test_numbers_that_python_does_not_read(self) -> None:
+        for number, more, due in ((b"7", 1, b"8"), (b"0", -1, b"0"), (b"9" * 5_000, 1,
+                                                                    b"9" * 5_000)):
+            self.assertEqual(mutants.changed(number, more), due)
+        data = b"7" * 5_000
+        self.assertEqual(mutants.numbers_changed(random.Random(1), data, []), data)
 
     def test_disagreements(self) -> None:
         ends = {"check": (4, "rejected J6 claim 0 node 7\n"), "play": (4, "rejected J6 claim 0 "

@@ -99,7 +99,11 @@ class Runs(unittest.TestCase):
         done = self.python("import sys; print(1, file=sys.stderr); print(input()); sys.exit(7)",
                            typed="ab\n", is_quick=True, most=9, clock=9)
         self.assertEqual((done.output, done.errors, done.status), ("ab\n", "1\n", 7))
-        self.assertGreater(done.kilobytes, 1000)
+        large = self.python("bytearray(300_000_000)", is_quick=True)
+        self.assertGreater(large.kilobytes, 290_000)
+        with mock.patch.object(kit.resource, "getrusage", return_value=mock.Mock(
+                ru_maxrss=large.kilobytes + 100_000)):
+            self.assertEqual(self.python("bytearray(300_000_000)", is_quick=True).kilobytes, 0)
         self.assertEqual(self.python("while True: pass", most=1, is_quick=True).status, -24)
         late = self.python("import time; time.sleep(9)", clock=1, is_quick=True)
         self.assertEqual((late.status, late.seconds < 9), (-9, True))
