@@ -52,7 +52,7 @@ BENCHES = {
     "Mutated files, words and dialogues": "fuzz.py --runs 20000",
     **{f"Mutated inputs of the part `{part}`": f"fuzz.py --part {part} --runs 3000"
        for part in ("settle", "draw", "play", "python", "page")},
-    "The worst inputs that are known":
+    "Worst cases":
         f"worst.py --draw {kit.built('posgame_draw')} --settle {kit.built('posgame_settle')} "
         f"--play {kit.built('posgame_play')}",
     "Each allocation of 22 runs refused in turn": "memory.py",

@@ -14,7 +14,8 @@ with another status than expected.
 
 With --growth callgrind counts the instructions of a row at 1/(2 N) and at 1/N of its size instead,
 if its files can be made smaller; with 0 for the size nothing at all. What comes on top of a run on
-almost nothing should be twice as much at twice the size; a factor above 3 is wrong. With --clock
+almost nothing should be twice as much at twice the size; a factor above 3 is wrong, or above 5 in
+the row t, which decides as many games as there are edges. With --clock
 the counts are microseconds of the processor, for programs that callgrind can't run. Unproved.
 """
 from __future__ import annotations
@@ -36,7 +37,8 @@ Texts = dict[str, str]
 
 class Row(NamedTuple):
     """A run: its arguments, the function that makes its files, and its limits. What is typed is the
-    text INPUT. A function that can make smaller files takes the part of the size that is due."""
+    text INPUT. A function that can make smaller files takes the part of the size that is due, and
+    `growth` bounds what twice the size may cost."""
 
     letter: str
     what: str
@@ -46,6 +48,7 @@ class Row(NamedTuple):
     megabytes: int
     statuses: tuple[int, ...] = (0,)
     program: str = "posgame"
+    growth: float = 3
 
 
 def game(lines: Iterable[Iterable[int]], kind: str = "maker-breaker", turn: str = "x") -> str:
@@ -195,14 +198,13 @@ def weights(share: float = 1) -> Texts:
             "INPUT": kit.field(range(POINTS)).replace(" ", "\n")}
 
 
-def weights_undone(share: float = 1) -> Texts:
-    """Makes a game that a potential proves, with replies of which the last is taken back again and
+def pairs_undone(share: float = 1) -> Texts:
+    """Makes a game that pairs prove, with replies of which the last is taken back again and
     again."""
-    lines = kit.scatter(7, POINTS, 400, 60)
-    claim = kit.claim("x y win", "||x|potential\n")
-    replies, undone = part_of(100, share), part_of(4_000, share)
-    typed = [*map(str, range(replies)), *["undo", str(replies - 1)] * undone, "quit", ""]
-    return {"GAME": game(lines), "CERT": kit.certificate(claim), "INPUT": "\n".join(typed)}
+    claim = kit.claim("x y win", f"||x|pairs {kit.field(f'{a}-{b}' for a, b in pairs(128))}\n")
+    last, undone = 2 * part_of(100, share), part_of(4_000, share)
+    typed = [*map(str, range(0, last, 2)), *["undo", str(last - 2)] * undone, "quit", ""]
+    return {"GAME": game(pairs(128)), "CERT": kit.certificate(claim), "INPUT": "\n".join(typed)}
 
 
 def parts(share: float = 1) -> Texts:
@@ -245,30 +247,49 @@ def graph(share: float = 1) -> Texts:
     return {"GAME": kit.switching(kit.scattered(3, max(edges // 2, 2), edges, True))}
 
 
+def short_lines(share: float = 1) -> Texts:
+    """Makes a game of as many drawn lines of 8 points as there may be, which no rule decides."""
+    return {"GAME": game(kit.scatter(1, POINTS, part_of(MOST_LINES, share), 8))}
+
+
+def few_lines() -> Texts:
+    """Makes a game of drawn lines of 6 points, on which a search looks long for a proof."""
+    return {"GAME": game(kit.scatter(1, POINTS, 2_000, 6))}
+
+
+def two_moves(rows: list[str], width: int) -> str:
+    """Returns a plan of positions after two moves, each as a row says."""
+    groups = [range(i, min(i + width, len(rows))) for i in range(0, len(rows), width)]
+    above = [f"moves {kit.field(f'{55 + v - it[0]}:{v}' for v in it)}" for it in groups]
+    first = kit.field(f"{10 + i}:{len(rows) + i}" for i in range(len(groups)))
+    return "\n".join(["posgame-plan 1", *rows, *above, f"moves {first}", ""])
+
+
 def one_certificate(share: float = 1) -> Texts:
-    """Makes a plan whose positions all name one game file, and its certificate of 100 KB."""
-    count = part_of(1_000, share)
-    rows = [*["game 1"] * count, f"moves {kit.field(f'{v}:{v}' for v in range(min(count, 60)))}"]
-    node = f"||y|all {kit.field(f'{v}:0' for v in range(60))}\n"
-    return {"GAME": kit.game("maker-breaker", "points 60", "line 0 1 2 3 4", "line 5 6 7 8 9"),
-            "plan": "\n".join(["posgame-plan 1", *rows, ""]),
-            "00001.cert": kit.certificate(kit.claim("y y win", node, 300))}
+    """Makes a plan whose positions all name one game file, and its certificate of 100 KB, which is
+    read to its end, and is then found to be of another position."""
+    apart = kit.field(["0-1", "5-6", *(f"{v}-{v + 1}" for v in range(120, POINTS, 2))])
+    claim = kit.claim("x y win", f"||x|pairs {apart}\n", 180)
+    return {"GAME": game([range(5), range(5, 10)]), "00001.cert": kit.certificate(claim),
+            "plan": two_moves(["game 1"] * part_of(1_000, share), 50)}
 
 
-def deep_plan(share: float = 1) -> Texts:
-    """Makes a plan of as many positions as there may be, each named by those after it."""
-    rows = ["decided", "moves 0:0"]
-    rows += [f"moves {v % 60}:{v - 1} {(v + 1) % 60}:{v - 2}"
-             for v in range(2, part_of(100_000, share))]
-    return {"GAME": kit.game("maker-breaker", "points 60", "line 0 1 2 3 4", "line 5 6 7 8 9"),
-            "plan": "\n".join(["posgame-plan 1", *rows, ""])}
+def decided_plan(share: float = 1) -> Texts:
+    """Makes a plan of positions that are to be decided, of a game of many lines."""
+    return {**short_lines(), "plan": two_moves(["decided"] * part_of(2_000, share), 200)}
+
+
+def missing_plan(share: float = 1) -> Texts:
+    """Makes a plan of positions that each name a file of their own, which isn't there."""
+    rows = [f"game {i + 1}" for i in range(part_of(8_000, share))]
+    return {"GAME": game([range(5)]), "plan": two_moves(rows, 200)}
 
 
 def far_layout(share: float = 1) -> Texts:
-    """Makes a game of 256 points and a layout whose last place is as far as it may be."""
+    """Makes a game of 256 points, a layout whose last place is as far as it may be, and moves."""
     far = part_of(999, share ** 0.5)
     places = [f"at {v} {4 * (v % 16)} {2 * (v // 16)}" for v in range(POINTS - 1)]
-    return {"GAME": game([(0, 1)]), "INPUT": "quit\n",
+    return {"GAME": game([(0, 255)]), "INPUT": "\n".join([*map(str, range(20)), "quit", ""]),
             "LAYOUT": "\n".join([*places, f"at {POINTS - 1} {max(far, 70)} {max(far, 40)}", ""])}
 
 
@@ -309,40 +330,42 @@ ROWS = [
     Row("j", "play, 268 MB of 257 replies", "play GAME CERT --side y", many_replies, 10, 600, (4,)),
     Row("k", "check, 268 MB of pairs", CHECK, MOST_PAIRS, 10, 60, (4,)),
     Row("k", "check, 268 MB of pairs, version 3", CHECK, IMAGE_PAIRS, 10, 60, (4,)),
-    Row("l", "record, 10,000 events on 20,000 lines", "record GAME OUT", session, 10, 60),
-    Row("m", "review, 990 moves on a graph", "review GAME GAME.record", graph_moves, 60, 60),
-    Row("n", "play, weights of 4,000 lines", "play GAME CERT --side y", weights, 20, 60),
-    Row("o", "report, 268 MB of pairs", "report GAME CERT", MOST_PAIRS, 10, 60, (4,)),
+    Row("l", "record, 10,000 events on 20,000 lines", "record GAME OUT", session, 4.2, 10),
+    Row("m", "review, 990 moves on a graph", "review GAME GAME.record", graph_moves, 0.2, 10),
+    Row("n", "play, weights of 4,000 lines", "play GAME CERT --side y", weights, 0.2, 10),
+    Row("o", "report, 268 MB of pairs", "report GAME CERT", MOST_PAIRS, 0.8, 10, (4,)),
     Row("p", "gen, 400,000 points in lines", "gen scatter 1 256 20000 20 OUT",
-        lambda: {}, 2, 60),
-    Row("q", "span check, 4 MB of parts", "span check GAME CERT", parts, 2, 60, (4,)),
-    Row("q", "span solve, 1,000 edges", "span solve GAME OUT", forests, 2, 60),
-    Row("r", "vec solve, 1,000 vectors", "vec solve GAME OUT", vectors, 2, 60),
-    Row("r", "vec check, 100,000 nodes", "vec check GAME CERT", vector_nodes, 2, 60, (4,)),
-    Row("s", "settle, 20,000 lines", "GAME OUT --positions 1", long_lines, 60, 400, (0, 1),
+        lambda: {}, 0.2, 10),
+    Row("q", "span check, 4 MB of parts", "span check GAME CERT", parts, 0.2, 20, (4,)),
+    Row("q", "span solve, 1,000 edges", "span solve GAME OUT", forests, 0.2, 10),
+    Row("r", "vec solve, 1,000 vectors", "vec solve GAME OUT", vectors, 0.2, 10),
+    Row("r", "vec check, 100,000 nodes", "vec check GAME CERT", vector_nodes, 0.2, 120, (4,)),
+    Row("s", "settle, 20,000 lines", "GAME OUT --positions 1", long_lines, 1.3, 20, (0,),
         "settle"),
-    Row("t", "moves, 1,000 edges", "moves GAME", graph, 60, 60, (0,), "settle"),
-    Row("u", "split, 20,000 lines into 100", "split GAME . --most 300", long_lines, 60, 400, (0,),
+    Row("s", "settle, 2,000 lines of 6", "GAME OUT --positions 1", few_lines, 16, 20, (1,),
         "settle"),
-    Row("v", "join, 1,000 positions of one certificate", "join GAME . OUT", one_certificate, 20,
-        200, (1,), "settle"),
-    Row("v", "join, 100,000 positions", "join GAME . OUT", deep_plan, 20, 400, (1,), "settle"),
-    Row("w", "draw, 20,000 lines", "GAME", long_lines, 2, 60, (0,), "draw"),
-    Row("w", "draw, 100 sheets of 1,000 vectors", "--blank 100 GAME", vectors, 20, 2_000, (0,),
+    Row("t", "moves, 1,000 edges", "moves GAME", graph, 3.6, 10, (0,), "settle", 5),
+    Row("u", "split, 20,000 lines into 256", "split GAME . --most 300", short_lines, 5, 20, (0,),
+        "settle"),
+    Row("v", "join, 1,000 positions of one certificate", "join GAME . OUT", one_certificate,
+        0.6, 10, (1,), "settle"),
+    Row("v", "join, 2,000 positions decided", "join GAME . OUT", decided_plan, 6, 20, (1,),
+        "settle"),
+    Row("v", "join, 8,000 files missing", "join GAME . OUT", missing_plan, 0.2, 10, (1,), "settle"),
+    Row("w", "draw, 20,000 lines", "GAME", long_lines, 0.2, 10, (0,), "draw"),
+    Row("w", "draw, 100 sheets of 1,000 vectors", "--blank 100 GAME", vectors, 0.2, 60, (0,),
         "draw"),
-    Row("w", "draw, a far layout", "--layout LAYOUT GAME", far_layout, 2, 60, (0,), "draw"),
-    Row("w", "draw, a record of 990 moves", "GAME GAME.record", graph_moves, 2, 60, (0,),
+    Row("w", "draw, a far layout", "--layout LAYOUT GAME", far_layout, 0.2, 10, (0,), "draw"),
+    Row("w", "draw, a record of 990 moves", "GAME GAME.record", graph_moves, 0.2, 10, (0,),
         "draw"),
-    Row("x", "draw, a book of 2,000 nodes", "--book GAME CERT", many_pages, 60, 1_000, (0,),
+    Row("x", "draw, a book of 2,000 nodes", "--book GAME CERT", many_pages, 5, 3_400, (0,),
         "draw"),
-    Row("y", "play at a table, a far layout", "GAME --layout LAYOUT", far_layout, 2, 60, (0,),
+    Row("y", "play at a table, a far layout", "GAME --layout LAYOUT", far_layout, 4, 10, (0,),
         "play"),
-    Row("y", "play at a table, 10,000 times lines", "GAME", open_lines, 20, 60, (0,), "play"),
-    Row("z", "play at a table, 4,000 points taken back", "GAME CERT", weights_undone, 300, 60,
+    Row("y", "play at a table, 10,000 times lines", "GAME", open_lines, 0.8, 10, (0,), "play"),
+    Row("z", "play at a table, 4,000 points taken back", "GAME CERT", pairs_undone, 1.2, 10,
         (0,), "play"),
 ]
-# The shares of a size at which --growth counts, by their greater one, and the greatest factor.
-MOST_GROWTH = 3.0
 
 
 def write(folder: pathlib.Path, texts: Texts) -> str:
@@ -380,7 +403,7 @@ def growth(row: Row, program: str, part: int, is_timed: bool, table: kit.Table) 
     least, one, two = (counted(program, row, it, is_timed)
                        for it in (0, 1 / (2 * part), 1 / part))
     factor = (two - least) / max(one - least, 1)
-    table.row(f"{row.letter}: {row.what}", least, one, two, (factor, MOST_GROWTH))
+    table.row(f"{row.letter}: {row.what}", least, one, two, (factor, row.growth))
 
 
 def is_sized(row: Row) -> bool:
