@@ -6,7 +6,8 @@ use Rattle.std.specs.List.{flat_map}
 use Rattle.std.specs.Fmt.{digits_onto, digit_glyph, digits}
 use Rattle.pg_base.specs.Texts.{Bytes}
 use Rattle.pg_picture.specs.Svg.{Attribute, attribute_text, begun, class_name, copy_text, escaped}
-use Rattle.pg_picture.specs.Svg.{escaped_byte, filled, head, inside_of, lone, lowered, numbered}
+use Rattle.pg_picture.specs.Svg.{escaped_byte, filled, ground_text, head, inside_of, lone, lowered}
+use Rattle.pg_picture.specs.Svg.{numbered}
 use Rattle.pg_picture.specs.Svg.{painted, path_of, picture_text, place_text, shape_text}
 use Rattle.pg_picture.specs.Svg.{shift_of, size_attributes}
 use Rattle.pg_picture.specs.Tags.{CloseInOrder, Scan, next, scan}
@@ -357,6 +358,18 @@ copies-whole ss (place ∷ places) = wholes (copy_text ss place) (flat_map (copy
 style-whole : IsWhole STYLE.now
 style-whole = record { whole = λ tags. refl }
 
+ground-whole : (width height : ℕ) → IsWhole (ground_text width height)
+unfolding ground_text
+ground-whole width height = lone-whole (codes "rect") (record {
+  name = codes "class";
+  value = codes "ground";
+}) _ (record { opens = λ tags. refl; closes = λ tags. refl }) (record {
+  name = λ tag tags. refl;
+  value = record { stays = λ name tags. refl };
+})
+    (AreFit.also (number-fit (codes "width") width (λ tag tags. refl))
+    (AreFit.also (number-fit (codes "height") height (λ tag tags. refl)) AreFit.none))
+
 inside_of-whole : (p : Picture) → IsWhole (inside_of p)
 unfolding inside_of
 inside_of-whole p = wholes (filled (codes "title") [] (escaped p.title)) _
@@ -365,13 +378,17 @@ inside_of-whole p = wholes (filled (codes "title") [] (escaped p.title)) _
       closes = λ tags. refl;
     }) (escaped-whole p.title))
     (wholes (filled (codes "style") [] STYLE.now)
-    (flat_map shape_text p.shapes ++ flat_map (copy_text p.shapes) p.copies)
+    (ground_text p.width p.height
+    ++ (flat_map shape_text p.shapes ++ flat_map (copy_text p.shapes) p.copies))
     (plain-whole (codes "style") STYLE.now (record {
       opens = λ tags. refl;
       closes = λ tags. refl;
     }) style-whole)
+    (wholes (ground_text p.width p.height)
+    (flat_map shape_text p.shapes ++ flat_map (copy_text p.shapes) p.copies)
+    (ground-whole p.width p.height)
     (wholes (flat_map shape_text p.shapes) (flat_map (copy_text p.shapes) p.copies)
-    (shapes-whole p.shapes) (copies-whole p.shapes p.copies)))
+    (shapes-whole p.shapes) (copies-whole p.shapes p.copies))))
 
 sizes-fit : (width height : ℕ) (size : Option ℕ) → AreFit (size_attributes width height size)
 sizes-fit width height None = AreFit.none

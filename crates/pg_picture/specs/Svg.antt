@@ -159,11 +159,18 @@ unfoldable pub copy_text : List Shape → Place → Bytes
 copy_text shapes place =
     filled (codes "g") (shift_of place ∷ []) (codes "\n" ++ flat_map shape_text shapes)
 
--- what stands in it: the title, the style sheet, the shapes, and the copies of these
+-- the white ground of all shapes, as wide and as high as the picture
+unfoldable pub ground_text : ℕ → ℕ → Bytes
+ground_text width height = lone (codes "rect")
+    (record { name = codes "class"; value = codes "ground" } ∷ numbered (codes "width") width
+    ∷ numbered (codes "height") height ∷ [])
+
+-- what stands in it: the title, the style sheet, the ground, the shapes, and the copies of these
 unfoldable pub inside_of : Picture → Bytes
 inside_of p = filled (codes "title") [] (escaped p.title)
     ++ (filled (codes "style") [] STYLE.now
-    ++ (flat_map shape_text p.shapes ++ flat_map (copy_text p.shapes) p.copies))
+    ++ (ground_text p.width p.height
+    ++ (flat_map shape_text p.shapes ++ flat_map (copy_text p.shapes) p.copies)))
 
 -- a picture
 unfoldable pub picture_text : Picture → Bytes

@@ -3,7 +3,8 @@ ghost use Rattle.std.specs.Prelude.{◌≡◌, ◌*◌, ◌/◌, ◌++◌, [], O
 ghost use Rattle.std.specs.Prelude.{string_bytes};
 ghost use Rattle.std.specs.List.{flat_map};
 ghost use Rattle.pg_picture.specs.Svg.{attribute_text, class_name, copy_text, escaped};
-ghost use Rattle.pg_picture.specs.Svg.{escaped_byte, filled, head, lowered, numbered, painted};
+ghost use Rattle.pg_picture.specs.Svg.{escaped_byte, filled, ground_text, head, lowered, numbered};
+ghost use Rattle.pg_picture.specs.Svg.{painted};
 ghost use Rattle.pg_picture.specs.Svg.{path_of, picture_text, place_text, shape_text, shift_of};
 ghost use Rattle.pg_picture.specs.Svg.{size_attributes};
 ghost use Rattle.pg_picture.specs.declared.shape.Shape.TheVariants as shapes;
@@ -326,6 +327,18 @@ fn put_style(out: &mut String) -> Result<(), AllocError>
     Ok(())
 }
 
+/// The ground of all shapes.
+fn put_ground(out: &mut String, width: u32, height: u32) -> Result<(), AllocError>
+    ensures { OnOk result
+        (string_bytes out.new ≡ string_bytes out.old ++ ground_text width height) }
+{
+    out.push_str("<rect class=\"ground\"")?;
+    put_number(out, "width", width)?;
+    put_number(out, "height", height)?;
+    out.push_str("/>\n")?;
+    Ok(())
+}
+
 /// How many pixels high a picture is shown, in proportion to how wide.
 fn height_at(width: u32, height: u32, across: u32) -> u64
     ensures { result ≡ across * height / max width 1 }
@@ -374,6 +387,7 @@ pub fn print_picture(alloc: Global, picture: &Picture) -> Result<String, Memory>
     out.push_str(">\n")?;
     put_title(&mut out, picture.title.as_str())?;
     put_style(&mut out)?;
+    put_ground(&mut out, picture.width, picture.height)?;
     let shapes = picture.shapes.as_slice();
     put_shapes(&mut out, shapes)?;
     put_copies(&mut out, shapes, picture.copies.as_slice())?;
