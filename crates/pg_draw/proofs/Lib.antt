@@ -1,3 +1,4 @@
+mod Apart
 mod Common
 mod Inside
 mod Order

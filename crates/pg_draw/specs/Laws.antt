@@ -1,12 +1,13 @@
 -- What the laws say of pictures.
-use Rattle.std.specs.Prelude.{◌≡◌, ℕ, ◌+◌, ◌≤◌, List, ◌∷◌, ◌++◌}
+use Rattle.std.specs.Prelude.{◌≡◌, ◌≢◌, ℕ, ◌+◌, ◌<◌, ◌≤◌, true, List, [], ◌∷◌, ◌++◌, get_or, length}
 use Rattle.std.specs.List.{flat_map}
 use Rattle.pg_picture.specs.declared.paint.Paint.TheVariants as paints
 use Rattle.pg_draw.specs.Prelude.{Picture, Place, Shape, Words, Board, Grid, Ring, Laid, Graph}
 use Rattle.pg_draw.specs.Prelude.{Table}
-use Rattle.pg_draw.specs.Prelude.{Item, Look, Scene, at, place_of_end, HALF, MARGIN, TOP}
+use Rattle.pg_draw.specs.Prelude.{Item, Look, Scene, at, lane_of, overlap, place_of_end}
+use Rattle.pg_draw.specs.Prelude.{HALF, MARGIN, TOP}
 use Rattle.pg_draw.specs.Pictures.{far_corner, legend_shapes, picture_of}
-use Rattle.pg_draw.specs.Shapes.{courses_of, item_shapes, plan_of, vertices_shapes}
+use Rattle.pg_draw.specs.Shapes.{courses_of, item_shapes, place_in, plan_of, vertices_shapes}
 use Rattle.pg_draw.specs.declared.measures.TheConstants.{HEADING_DOWN}
 
 -- the shapes of items on a scene's board
@@ -44,3 +45,12 @@ vertex_place (Laid chart) vertex = at MARGIN TOP
 vertex_place (Graph vertices ends terminals bridge) vertex =
     place_of_end (plan_of vertices bridge) vertex vertex
 vertex_place (Table rows target) vertex = at MARGIN TOP
+
+-- lines with two points in common are apart: in their lanes each point has two places
+abbrev pub AreDrawnApart : Board → List (List ℕ) → Type 0
+AreDrawnApart board lines = (i j v : ℕ)
+    → i < j
+    → j < length lines
+    → overlap (get_or lines j []) (get_or lines i []) ≡ true
+    → place_in board (courses_of board) (lane_of lines i) v
+    ≢ place_in board (courses_of board) (lane_of lines j) v

@@ -1,6 +1,8 @@
 -- What the definitions of this crate name of std and of the crates below.
 pub use Rattle.pg_base.specs.declared.limits.TheConstants.{MAX_EDGES}
+pub use Rattle.pg_game.specs.Game.{lines_of}
 pub use Rattle.pg_game.specs.declared.bounds.TheConstants.{MAX_POINTS, MAX_VERTICES}
+pub use Rattle.pg_game.specs.declared.game.Game.{Game}
 pub use Rattle.pg_gf2.specs.declared.game.TheConstants.{MAX_VECTORS}
 pub use Rattle.pg_gen.specs.declared.limits.TheConstants.{MAX_BRIDGE_ROWS}
 pub use Rattle.pg_layout.specs.Layouts.{spots_of}
@@ -22,7 +24,10 @@ pub use Rattle.pg_places.specs.declared.course.Course.TheVariants.{Around, Bent,
 pub use Rattle.pg_places.specs.declared.measures.TheConstants.{APART, CELL, HALF, MARGIN}
 pub use Rattle.pg_places.specs.declared.measures.TheConstants.{MAX_ON_RING, ROW, TOP}
 pub use Rattle.pg_places.specs.declared.vertices.Plan.{Plan}
+pub use Rattle.pg_captions.specs.Look.{are_drawn}
+pub use Rattle.pg_scene.specs.Items.{lane_of, overlap}
 pub use Rattle.pg_scene.specs.Limits.{IsBoard, points_on, vertices_on}
+pub use Rattle.pg_scene.specs.Scenes.{IsBoardOf}
 pub use Rattle.pg_scene.specs.declared.board.Board.{Board}
 pub use Rattle.pg_scene.specs.declared.board.Board.TheVariants.{Graph, Grid, Laid, Ring, Table}
 pub use Rattle.pg_scene.specs.declared.item.Item.{Item}

@@ -1,5 +1,6 @@
 -- The shapes of what is to be seen.
-use Rattle.std.specs.Prelude.{ℕ, ◌+◌, ◌*◌, ◌%◌, Bool, ◌==◌, nat_lt, nat_eq, if◌then◌else◌, List, []}
+use Rattle.std.specs.Prelude.{ℕ, ◌+◌, ◌*◌, ◌/◌, ◌%◌, Bool, ◌==◌, nat_lt, nat_eq, if◌then◌else◌}
+use Rattle.std.specs.Prelude.{List, []}
 use Rattle.std.specs.Prelude.{◌∷◌, ◌++◌, length, Option, Some, None, slice_get, slice_index, codes}
 use Rattle.std.specs.Prelude.{decimal, fold, get_or, max, min}
 use Rattle.std.specs.List.{count_by, flat_map, list_any, range_with_len}
@@ -23,7 +24,9 @@ use Rattle.pg_draw.specs.declared.measures.TheConstants.{CELL_MARK_DOWN, CHILD_R
 use Rattle.pg_draw.specs.declared.measures.TheConstants.{CORNER_UP, CROSS_BOTTOM, CROSS_LEFT}
 use Rattle.pg_draw.specs.declared.measures.TheConstants.{CROSS_RIGHT, CROSS_TOP, DISC_MARK_DOWN}
 use Rattle.pg_draw.specs.declared.measures.TheConstants.{DISC_NUMBER_UP, EDGE_CHILD_RADIUS}
-use Rattle.pg_draw.specs.declared.measures.TheConstants.{EDGE_NOTE_DOWN, LANES, LANE_ACROSS}
+use Rattle.pg_draw.specs.declared.measures.TheConstants.{EDGE_NOTE_DOWN, GROUP, GROUP_ACROSS}
+use Rattle.pg_draw.specs.declared.measures.TheConstants.{GROUP_DOWN}
+use Rattle.pg_draw.specs.declared.measures.TheConstants.{LANES, LANE_ACROSS}
 use Rattle.pg_draw.specs.declared.measures.TheConstants.{LANE_DOWN, LINE_DOT_RADIUS, LOOP_RADIUS}
 use Rattle.pg_draw.specs.declared.measures.TheConstants.{MEMBER_RADIUS, NOTE_DOWN, PAIR_DOT_RADIUS}
 use Rattle.pg_draw.specs.declared.measures.TheConstants.{PLATE_RADIUS, POINT_RADIUS, VERTEX_RADIUS}
@@ -232,13 +235,18 @@ point_shapes numbers (Table rows target) courses point mark = row_shapes numbers
 
 -- ---- lines and pairs
 
--- the place of a lane beside another, so that lines that lie over one another are told apart
-abbrev pub lane_place : ℕ → Place → Place
-lane_place lane place = if lane % LANES == 0 then place
-    else if lane % LANES == 1 then lower_right place LANE_ACROSS LANE_DOWN
-    else if lane % LANES == 2 then upper_left place LANE_ACROSS LANE_DOWN
-    else if lane % LANES == 3 then lower_right place (2 * LANE_ACROSS) (2 * LANE_DOWN)
-    else upper_left place (2 * LANE_ACROSS) (2 * LANE_DOWN)
+-- the place of that number beside another: that of number 0 is the other itself, then they are in
+-- turn below it to the right and above it to the left, any two a step further than the two before
+abbrev pub place_beside : ℕ → ℕ → ℕ → Place → Place
+place_beside number across down place = if number % 2 == 1
+    then lower_right place ((number / 2 + 1) * across) ((number / 2 + 1) * down)
+    else upper_left place (number / 2 * across) (number / 2 * down)
+
+-- the place of a lane beside another, so that lines that lie over one another are told apart: that
+-- of its group, of so many lanes, and beside it that of the lane in the group
+unfoldable pub lane_place : ℕ → Place → Place
+lane_place lane place = place_beside (lane % LANES % GROUP) LANE_ACROSS LANE_DOWN
+    (place_beside (lane % LANES / GROUP) GROUP_ACROSS GROUP_DOWN place)
 
 -- the place of a point of a line in that lane
 abbrev pub place_in : Board → List Course → ℕ → ℕ → Place

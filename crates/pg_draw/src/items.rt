@@ -1,8 +1,8 @@
 //! The shapes of items.
-ghost use Rattle.std.specs.Prelude.{◌≡◌, ◌≤◌, ◌++◌, OnOk, length};
+ghost use Rattle.std.specs.Prelude.{◌≡◌, ◌<◌, ◌≤◌, ◌+◌, ◌++◌, OnOk, length};
 ghost use Rattle.pg_draw.specs.Prelude.{flat_map, IsBoard, MAX_EDGES, IsPlan, IsWithin};
 ghost use Rattle.pg_draw.specs.Shapes.{badge_shapes, cell_ring_shapes, extra_shapes, fault_shapes};
-ghost use Rattle.pg_draw.specs.Shapes.{item_shapes};
+ghost use Rattle.pg_draw.specs.Shapes.{item_shapes, place_beside};
 ghost use Rattle.pg_draw.specs.Shapes.{lane_place, line_shapes, member_shapes, pair_shapes};
 ghost use Rattle.pg_draw.specs.Shapes.{part_shapes, place_in, reached_shapes, ring_shapes};
 ghost use Rattle.pg_draw.specs.Shapes.{further_edge_shapes, weight_shapes};
@@ -11,8 +11,9 @@ use crate::boards::place_of;
 use crate::marks::{course_shape, push_edge, push_point};
 use crate::measures::{
     BADGE_RADIUS, BADGE_RIGHT, BADGE_UP, CELL_CHILD_DOWN, CELL_CHILD_RADIUS, CHILD_RADIUS,
-    CROSS_BOTTOM, CROSS_LEFT, CROSS_RIGHT, CROSS_TOP, EDGE_CHILD_RADIUS, EDGE_NOTE_DOWN,
-    LANE_ACROSS, LANE_DOWN, LANES, LINE_DOT_RADIUS, MEMBER_RADIUS, NOTE_DOWN, PAIR_DOT_RADIUS,
+    CROSS_BOTTOM, CROSS_LEFT, CROSS_RIGHT, CROSS_TOP, EDGE_CHILD_RADIUS, EDGE_NOTE_DOWN, GROUP,
+    GROUP_ACROSS, GROUP_DOWN, LANE_ACROSS, LANE_DOWN, LANES, LINE_DOT_RADIUS, MAX_CORNER_REACH,
+    MAX_STEPS, MEMBER_RADIUS, NOTE_DOWN, PAIR_DOT_RADIUS,
 };
 use crate::paints::{pair_paint, set_paint, step_paint};
 use crate::table::{push_row_underline, push_underline};
@@ -21,29 +22,40 @@ use pg_base::Memory;
 use pg_captions::Text;
 use pg_picture::{Paint, Place, Shape};
 use pg_places::{
-    Courses, MAX_MIDDLE_REACH, Plan, course_of, lower, lower_right, parallels, place_on,
-    upper_left, upper_right,
+    Courses, MAX_MIDDLE_REACH, Plan, course_of, lower, parallels, place_on, upper_left, upper_right,
 };
 use pg_scene::{Board, Item, Set};
 use std::alloc::Global;
 
+/// The place of that number beside another.
+fn place_beside(number: usize, across: u32, down: u32, place: Place) -> Place
+    requires few { number < MAX_STEPS }
+    requires across { across ≤ LANE_ACROSS }
+    requires down { down ≤ GROUP_DOWN }
+    requires place { IsWithin MAX_CORNER_REACH place }
+    ensures place { result ≡ place_beside number across down place }
+    ensures near { (result.across ≤ place.across + 18) × (result.down ≤ place.down + 18) }
+{
+    let steps = (number / 2) as u32;
+    if number % 2 == 1 {
+        Place {
+            across: place.across + (steps + 1) * across,
+            down: place.down + (steps + 1) * down,
+        }
+    } else {
+        upper_left(place, steps * across, steps * down)
+    }
+}
+
 /// The place of a lane beside another.
+#[tactic(auto, unfolding(crate::specs::Shapes::lane_place))]
 fn lane_place(lane: usize, place: Place) -> Place
     requires { IsWithin MAX_MIDDLE_REACH place }
     ensures { result ≡ lane_place lane place }
 {
     let among = lane % LANES;
-    if among == 0 {
-        place
-    } else if among == 1 {
-        lower_right(place, LANE_ACROSS, LANE_DOWN)
-    } else if among == 2 {
-        upper_left(place, LANE_ACROSS, LANE_DOWN)
-    } else if among == 3 {
-        lower_right(place, 2 * LANE_ACROSS, 2 * LANE_DOWN)
-    } else {
-        upper_left(place, 2 * LANE_ACROSS, 2 * LANE_DOWN)
-    }
+    let group = place_beside(among / GROUP, GROUP_ACROSS, GROUP_DOWN, place);
+    place_beside(among % GROUP, LANE_ACROSS, LANE_DOWN, group)
 }
 
 /// The place of a point of a line in that lane.

@@ -61,14 +61,26 @@ pub(crate) const CELL_CHILD_DOWN: u32 = 4;
 /// The radius of the ring around the place of an edge at which a node follows.
 pub(crate) const EDGE_CHILD_RADIUS: u32 = 26;
 
-/// How many lanes lines are drawn in.
-pub(crate) const LANES: usize = 5;
+/// How many lanes have places of their own.
+pub(crate) const LANES: usize = 30;
 
-/// How far to the side each further lane is.
+/// How many lanes are in a group.
+pub(crate) const GROUP: usize = 5;
+
+/// How far to the side each further lane of a group is.
 pub(crate) const LANE_ACROSS: u32 = 6;
 
-/// How far up or down each further lane is.
+/// How far up or down each further lane of a group is.
 pub(crate) const LANE_DOWN: u32 = 3;
+
+/// How far to the side each further group of lanes is.
+pub(crate) const GROUP_ACROSS: u32 = 1;
+
+/// How far up or down each further group of lanes is.
+pub(crate) const GROUP_DOWN: u32 = 5;
+
+/// No place is so many steps beside another.
+pub(crate) const MAX_STEPS: usize = 6;
 
 /// The radius of the ring around a number beside a place.
 pub(crate) const BADGE_RADIUS: u32 = 9;

@@ -7,4 +7,4 @@ pub mod Scaled
 pub mod Named
 pub mod SpanWithin
 pub mod VectorWithin
-mod Lanes
+pub mod Lanes

@@ -13,7 +13,7 @@ use Rattle.std.proofs.lemmas.List.{take_all}
 use Rattle.std.proofs.lemmas.List.Folds.{flat_map-map}
 use Rattle.pg_cert.specs.declared.node.Body.TheVariants as bodies
 use Rattle.pg_captions.specs.Look.{are_drawn}
-use Rattle.pg_scene.specs.Items.{body_items, fault_items, lane_after, line_item}
+use Rattle.pg_scene.specs.Items.{body_items, fault_items, lane_of, line_item}
 use Rattle.pg_scene.specs.Items.{line_items, mark_of, member_items, numbered, pair_item}
 use Rattle.pg_scene.specs.Items.{point_items, reply_item}
 use Rattle.pg_captions.specs.Look.{seen_at}
@@ -81,7 +81,7 @@ none-lines : {B : Type 0} (r : Item → List B) (seen : Bool) (lines : List (Lis
     → flat_map r (line_items seen lines) ≡ []
 none-lines r seen lines h = elim (cases_Bool (are_drawn seen lines)) [
   | inl few ↦ rw few (none-map r (line_item lines)
-      (λ i. h (get_or lines i []) (lane_after lines i (get_or lines i [])))
+      (λ i. h (get_or lines i []) (lane_of lines i))
       (range_with_len 0 (length lines)))
   | inr many ↦ rw many refl
 ]

@@ -1,7 +1,7 @@
 -- What is to be seen on a board, of a position, of lines, and of the bodies of nodes.
 use Rattle.std.specs.Prelude.{ℕ, zero, suc, ◌+◌, ◌-◌, ◌^◌, nat_eq, nat_lt, nat_le, Bool, true}
 use Rattle.std.specs.Prelude.{false, ◌&&◌, List, [], ◌∷◌, ◌++◌, length, map, take, get_or, Option}
-use Rattle.std.specs.Prelude.{Some, None, if◌then◌else◌}
+use Rattle.std.specs.Prelude.{Some, None, if◌then◌else◌, max}
 use Rattle.pg_scene.specs.Prelude.{FinSet, contains, decimal, count_by, flat_map, list_any}
 use Rattle.pg_scene.specs.Prelude.{range_with_len, sum_by, nat_cmp, points_below}
 use Rattle.pg_scene.specs.Prelude.{Pair, Side}
@@ -41,17 +41,21 @@ point_items n p = map (λ v. items.Point v (mark_of p v)) (range_with_len 0 n)
 abbrev pub overlap : List ℕ → List ℕ → Bool
 overlap line other = nat_le 2 (count_by (λ v. list_any (nat_eq v) other) line)
 
--- the lane of a line after the first j: the next after that of the last of these which it may lie
--- over
+-- the lane of a line after the first j: the next after the greatest lane of those of them which it
+-- may lie over, and the first, 0, if there is none
 unfoldable pub lane_after : List (List ℕ) → ℕ → List ℕ → ℕ
 lane_after lines zero line = 0
 lane_after lines (suc j) line = if overlap line (get_or lines j [])
-    then suc (lane_after lines j (get_or lines j []))
+    then max (lane_after lines j line) (suc (lane_after lines j (get_or lines j [])))
     else lane_after lines j line
+
+-- the lane of the line of that number
+abbrev pub lane_of : List (List ℕ) → ℕ → ℕ
+lane_of lines i = lane_after lines i (get_or lines i [])
 
 -- the line of that number, in its lane
 abbrev pub line_item : List (List ℕ) → ℕ → Item
-line_item lines i = items.Line (get_or lines i []) (lane_after lines i (get_or lines i []))
+line_item lines i = items.Line (get_or lines i []) (lane_of lines i)
 
 -- the lines, if they are to be seen and few enough
 abbrev pub line_items : Bool → List (List ℕ) → List Item

@@ -1,11 +1,12 @@
 //! Laws of scenes. Each function is empty: what it promises is a law of the definitions alone.
-ghost use Rattle.std.specs.Prelude.{◌≡◌, ◌<◌, ◌≤◌, ℕ, Bool, List, Option, length, map, take};
+ghost use Rattle.std.specs.Prelude.{◌≡◌, ◌<◌, ◌≤◌, ℕ, Bool, true, List, [], Option, get_or, length};
+ghost use Rattle.std.specs.Prelude.{map, take};
 ghost use Rattle.pg_scene.specs.Prelude.{FinSet, All, flat_map, range_with_len, nat_cmp};
 ghost use Rattle.pg_scene.specs.Prelude.{points_below, Pair, position_of, Claim, Node, Reply};
 ghost use Rattle.pg_scene.specs.Prelude.{point_count, start, Game, Position, SpanClaim, SpanGame};
 ghost use Rattle.pg_scene.specs.Prelude.{VecGame};
 ghost use Rattle.pg_cert.specs.declared.node.Body.TheVariants as bodies;
-ghost use Rattle.pg_scene.specs.Items.{mark_of};
+ghost use Rattle.pg_scene.specs.Items.{lane_of, mark_of, overlap};
 ghost use Rattle.pg_captions.specs.Look.{seen_at};
 ghost use Rattle.pg_scene.specs.Limits.{IsScene};
 ghost use Rattle.pg_scene.specs.Read.{first_in, pair_in, point_in, reply_in, second_in};
@@ -45,6 +46,15 @@ pub fn points_are_drawn_once()
         → (moves : List ℕ) → (scene : Scene) → IsSceneOfMoves look g p over moves scene
         → flat_map point_in scene.items
         ≡ map (λ v. (v, mark_of p v)) (range_with_len 0 (point_count g)) }
+{}
+
+/// The lane of a line is greater than that of each earlier line with which it has two points in
+/// common (`greater`), and no greater than the number of the lines before it (`few`).
+pub fn overlapping_lines_are_in_different_lanes()
+    ensures greater { (lines : List (List ℕ)) → (i j : ℕ) → i < j
+        → overlap (get_or lines j []) (get_or lines i []) ≡ true
+        → lane_of lines i < lane_of lines j }
+    ensures few { (lines : List (List ℕ)) → (i : ℕ) → lane_of lines i ≤ i }
 {}
 
 /// The pairs drawn are the first of the node's, as many as the game has points, each exactly once

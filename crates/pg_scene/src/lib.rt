@@ -23,8 +23,9 @@ pub use bodies::put_fault;
 pub use bridge::joining_board;
 pub use item::{Item, Items, Set};
 pub use laws::{
-    edges_are_drawn_once, pairs_are_drawn_once, points_are_drawn_once, replies_are_drawn_once,
-    scenes_can_be_laid_out, span_scenes_can_be_laid_out, vector_scenes_can_be_laid_out,
+    edges_are_drawn_once, overlapping_lines_are_in_different_lanes, pairs_are_drawn_once,
+    points_are_drawn_once, replies_are_drawn_once, scenes_can_be_laid_out,
+    span_scenes_can_be_laid_out, vector_scenes_can_be_laid_out,
 };
 pub use points::{put_members, put_points};
 pub use recorded::scene_of_moves;

@@ -1,8 +1,9 @@
 //! Lines.
-ghost use Rattle.std.specs.Prelude.{◌≡◌, ◌<◌, ◌++◌, ◌∷◌, [], IfOk, OnOk, get_or, length, nat_eq};
-ghost use Rattle.pg_scene.specs.Prelude.{list_any};
+ghost use Rattle.std.specs.Prelude.{◌≡◌, ◌<◌, ◌≤◌, ◌++◌, ◌∷◌, [], IfOk, OnOk, length, map, max};
+ghost use Rattle.std.specs.Prelude.{nat_eq};
+ghost use Rattle.pg_scene.specs.Prelude.{list_any, range_with_len};
 ghost use Rattle.pg_captions.specs.Look.{are_drawn};
-ghost use Rattle.pg_scene.specs.Items.{lane_after, line_item, line_items, overlap};
+ghost use Rattle.pg_scene.specs.Items.{lane_of, line_item, line_items, overlap};
 
 use crate::item::Item;
 use pg_base::{Line, Memory, Points};
@@ -30,19 +31,24 @@ fn overlap(line: &Line, other: &Line) -> bool
     common >= 2
 }
 
-/// The lane of the line of that number.
-fn lane_of(lines: &[Line], i: usize) -> usize
-    requires { i < length lines.now }
-    ensures { result ≡ lane_after lines.now i (get_or lines.now i []) }
+/// The greater of two numbers.
+fn greater_of(a: usize, b: usize) -> usize
+    ensures { result ≡ max a b }
+{
+    a.max(b)
+}
+
+/// The lane of the line of that number, after those of the lines before it.
+fn lane_of(lines: &[Line], lanes: &[usize], i: usize) -> usize
+    requires inside { i < length lines.now }
+    requires before { lanes.now ≡ map (lane_of lines.now) (range_with_len 0 i) }
+    ensures lane { result ≡ lane_of lines.now i }
+    ensures few { result ≤ i }
 {
     let mut lane = 0;
-    let mut last = i;
-    let mut left = i;
-    while left > 0 {
-        left -= 1;
-        if overlap(&lines[last], &lines[left]) {
-            lane += 1;
-            last = left;
+    for j in 0..i {
+        if overlap(&lines[i], &lines[j]) {
+            lane = greater_of(lane, lanes[j] + 1);
         }
     }
     lane
@@ -55,12 +61,18 @@ fn points_of(alloc: Global, line: &Line) -> Result<Points, Memory>
     Ok(Points::from_vec(line.as_slice().to_vec(alloc)?))
 }
 
-/// Puts the line of that number.
-fn put_line_of(alloc: Global, items: &mut Vec<Item>, lines: &[Line], i: usize) -> Result<(), Memory>
-    requires { i < length lines.now }
+/// Puts the line of that number, in its lane.
+fn put_line_of(
+    alloc: Global,
+    items: &mut Vec<Item>,
+    lines: &[Line],
+    i: usize,
+    lane: usize,
+) -> Result<(), Memory>
+    requires inside { i < length lines.now }
+    requires lane { lane ≡ lane_of lines.now i }
     ensures { OnOk result (items.new.items ≡ items.old.items ++ line_item lines.now i ∷ []) }
 {
-    let lane = lane_of(lines, i);
     let points = points_of(alloc, &lines[i])?;
     items.push(Item::Line { points, lane })?;
     Ok(())
@@ -78,8 +90,11 @@ pub(crate) fn put_lines(
     if !are_drawn(seen, lines) {
         return Ok(());
     }
+    let mut lanes = Vec::new(alloc);
     for i in 0..lines.len() {
-        put_line_of(alloc, items, lines, i)?;
+        let lane = lane_of(lines, lanes.as_slice(), i);
+        put_line_of(alloc, items, lines, i, lane)?;
+        lanes.push(lane)?;
     }
     Ok(())
 }
