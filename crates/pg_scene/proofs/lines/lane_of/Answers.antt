@@ -1,5 +1,4 @@
-use Rattle.std.proofs.Common.{◌≡◌, ◌<◌, ◌+◌, ℕ, List, [], true, false, ap, ap₂, arith, get_or, sym}
-use Rattle.std.proofs.Common.{refl, ◌∙◌}
+use Rattle.std.proofs.Common.{◌∙◌, ◌<◌, ℕ, List, [], ap₂, arith, get_or, refl, sym}
 use Rattle.pg_scene.specs.Items.{lane_after, overlap}
 use Rattle.pg_scene.proofs.Lanes.{at_any, lane_before, lane_low, lane_off, lane_on}
 use Rattle.pg_scene.proofs.Lanes.{lanes_count}
