@@ -56,9 +56,9 @@ fn command<'a>(alloc: Global) -> Result<Command<'a>, Error> {
     let certificate = Arg::new(alloc, "CERT").help(
         "The file of a certificate, by which the program plays a side",
     );
-    let played = side(alloc, "side", "The side that the program plays by CERT").requires_arg(
-        "CERT",
-    )?;
+    let played = side(alloc, "side", "The side that the program plays by CERT")
+        .requires_arg("CERT")?
+        .conflicts_with("computer")?;
     let searched = side(
         alloc,
         "computer",
