@@ -1,9 +1,9 @@
 """Many games at a time."""
 from __future__ import annotations
 
+import atexit
 import os
 import queue
-import sys
 import threading
 from typing import Any, Callable, Generator, Iterable, List, Mapping, Optional, Tuple, Union
 
@@ -60,7 +60,8 @@ def _each(games: Games, call: Callable[[Game], Solution], jobs: Optional[int]) -
 class _Crew:
     """The threads that call a function of each game, and the runs that they began.
 
-    They are daemons, so that an end of the whole script does not wait for games that are left.
+    They are daemons, so that an end of the whole script does not wait for games that are left: it
+    ends their runs, as long as threads still go on.
     """
 
     def __init__(self, games: Mapping[Any, Game], call: Callable[[Game], Solution]) -> None:
@@ -73,6 +74,7 @@ class _Crew:
 
     def begin(self, count: int) -> None:
         """Starts so many threads."""
+        atexit.register(self.end)
         for _ in range(count):
             thread = threading.Thread(target=self._work, daemon=True)
             thread.start()
@@ -87,10 +89,10 @@ class _Crew:
 
     def end(self) -> None:
         """Ends all runs, and then the threads."""
+        atexit.unregister(self.end)
         self._runs.end()
-        if not sys.is_finalizing():  # Then no other thread goes on.
-            for thread in self._threads:
-                thread.join()
+        for thread in self._threads:
+            thread.join()
 
     def _work(self) -> None:
         """Calls the function of one game after another."""

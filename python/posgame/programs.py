@@ -4,6 +4,7 @@ from __future__ import annotations
 import contextlib
 import os
 import pathlib
+import shutil
 import subprocess
 import tempfile
 import threading
@@ -159,13 +160,24 @@ def belonging_to(runs: Runs) -> Iterator[None]:
         del _here.runs
 
 
+@contextlib.contextmanager
+def _folder() -> Iterator[str]:
+    """Makes a folder, and removes it at the end of the block: never before, as the end of the whole
+    script removes a TemporaryDirectory."""
+    path = tempfile.mkdtemp(prefix="posgame-")
+    try:
+        yield path
+    finally:
+        shutil.rmtree(path, ignore_errors=True)
+
+
 def run(program: str, words: List[str], files: Dict[str, bytes], typed: str = "") -> Run:
     """Runs a program in a folder of its own that contains these files.
 
     The run ends with this call, also if it is interrupted or this process dies.
     """
     runs: Runs = getattr(_here, "runs", None) or Runs()
-    with tempfile.TemporaryDirectory(prefix="posgame-") as folder:
+    with _folder() as folder:
         for name, data in {**files, "TYPED": typed.encode()}.items():
             pathlib.Path(folder, name).write_bytes(data)
         try:

@@ -130,6 +130,17 @@ class OfAProcess(Stubbed):
                 process = self.ended(MANY + wait + end, 3, None)
                 self.assertEqual((process.returncode, process.communicate()), (0, ("0\n", "")))
 
+    def test_the_script_ends_while_runs_begin(self) -> None:
+        games = "[Game.from_lines([[0]], points=2, y=[1] * (n % 2)) for n in range(60)]"
+        text = f"from posgame import Game, solve_many\nmany = solve_many({games}, jobs=25)\n"
+        for _ in range(3):
+            process = self.script(text + "next(many)\n")
+            self.assertEqual((process.communicate(timeout=LONGEST), process.returncode),
+                             (("", ""), 0))
+            os.close(os.open(self.pipe, os.O_WRONLY))  # A writer that goes, if none came.
+            self.read(10_000)
+            self.assertEqual(list((self.folder / "runs").iterdir()), [])
+
     def test_a_thread_goes_on(self) -> None:
         text = f"import threading\nthreading.Thread(target=exec, args=({ONE!r},)).start()\n"
         self.ended(text + "import time\ntime.sleep(1000)", 1, signal.SIGKILL)
