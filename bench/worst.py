@@ -15,8 +15,8 @@ with another status than expected.
 With --growth callgrind counts the instructions of a row at 1/(2 N) and at 1/N of its size instead,
 if its files can be made smaller; with 0 for the size nothing at all. What comes on top of a run on
 almost nothing should be twice as much at twice the size; a factor above 3 is wrong, or above 5 in
-the row t, which decides as many games as there are edges. With --clock
-the counts are microseconds of the processor, for programs that callgrind can't run. Unproved.
+the row t, which decides as many games as there are edges. With --clock the counts are microseconds
+of the processor, for programs that callgrind can't run. Unproved.
 """
 from __future__ import annotations
 
