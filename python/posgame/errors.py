@@ -96,7 +96,8 @@ class ProgramMissing(PosgameError):
 
 
 class RunFailed(PosgameError):
-    """A run that ended without an answer: not a valid command, a failed read or write, memory."""
+    """A run that ended without an answer: the command is not valid, no plan fits the game, a read
+    or write failed, or memory ran out."""
 
 
 class FileError(PosgameError):

@@ -72,7 +72,7 @@ class Split:
 
         It has at most `nodes` nodes, and the program has judged it. `images` as in `Game.solve`. If
         the certificates do not suffice, the answer is unknown: then settle what is still needed
-        with higher limits, or split it further.
+        with higher limits, or split it further. It is also unknown if more nodes are needed.
         """
         limits = Limits(nodes=nodes)
         return self.game._solution(self._joined(limits, ["--images"] if images else ()), limits)
