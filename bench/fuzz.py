@@ -313,8 +313,9 @@ def main() -> int:
     table = kit.Table("what", "number")
     for row in (("part", given.part), ("runs", len(runs)), ("cases", number - given.first),
                 ("the next case", number), ("findings", len(wrong)),
-                ("greatest memory, MB", max(it.megabytes for it in runs)),
-                ("longest run, s of a processor", f"{max(it.processor for it in runs):.2f}"),
+                ("greatest memory, MB", max((it.megabytes for it in runs), default=0)),
+                ("longest run, s of a processor",
+                 f"{max((it.processor for it in runs), default=0):.2f}"),
                 *((f"runs ended with status {status}", many) for status, many in statuses)):
         table.row(*row)
     return kit.end(wrong)

@@ -3,9 +3,12 @@
 """
 from __future__ import annotations
 
+import contextlib
+import io
 import pathlib
 import random
 import shutil
+import sys
 import types
 import unittest
 from typing import Optional
@@ -195,6 +198,14 @@ class Cases(unittest.TestCase):
                                        tools)
                 self.assertEqual(found, ([], due))
         self.assertEqual(len(set(drawn)), 4)
+
+    def test_a_case_without_runs(self) -> None:
+        with mock.patch.object(fuzz, "run_cases", return_value=([], 1)), \
+                mock.patch("sys.argv", ["fuzz.py", sys.executable, "--cases", "1"]), \
+                mock.patch.dict("os.environ"), \
+                contextlib.redirect_stdout(io.StringIO()) as shown:
+            self.assertEqual(fuzz.main(), 0)
+        self.assertIn("| cases | 1 |", shown.getvalue())
 
     def test_numbers_that_python_does_not_read(self) -> None:
         for number, more, due in ((b"7", 1, b"8"), (b"0", -1, b"0"), (b"9" * 5_000, 1,
