@@ -251,7 +251,9 @@ and its claims imply the result.
 
 `boards/boards.csv` has more of each board: the kind and the sizes, which program found the result
 and by which budgets, the sums of its game file and certificate, and what is known from elsewhere.
-`boards/README.md` says how to make all of it again.
+`boards/README.md` says how to make all of it again. Rows of Avoider-Enforcer that name
+`posgame-settle 1.0.0` there come from before its search in depth: 1.1.0 may find other certificates
+of these boards, and settle more of them.
 
 In Maker-Maker `first` is the side that begins. The class `who begins` is what `solve` prints as
 `first-mover`. An *animal* is a polyomino: cells of a square grid, linked by common sides.
