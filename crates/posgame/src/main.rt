@@ -2,11 +2,8 @@
 #![tactic(auto)]
 
 use pg_cli::run;
-use pg_host::{HostConsole, HostFiles, guard_streams};
-use pg_messages::{NO_MEMORY, NO_WORDS};
+use pg_host::{HostConsole, HostFiles, guard_streams, words_given};
 use pg_pns::Work;
-use std::env;
-use std::io::ErrorKind;
 use std::process::ExitCode;
 
 /// Returns whether the words, if they have a meaning, ask for a session to be recorded.
@@ -21,22 +18,10 @@ fn records(words: &[String]) -> bool {
 
 fn main(rt: HostRuntime) -> ExitCode {
     guard_streams(&rt);
-    let arguments = match env::args(&rt) {
-        Ok(arguments) => arguments,
-        Err(error) => {
-            return ExitCode::from(if error.kind() == ErrorKind::OutOfMemory {
-                NO_MEMORY
-            } else {
-                NO_WORDS
-            });
-        }
+    let words = match words_given(&rt) {
+        Ok(words) => words,
+        Err(status) => return ExitCode::from(status),
     };
-    let mut words = Vec::new(rt.alloc());
-    for word in arguments.skip(1) {
-        if words.push(word).is_err() {
-            return ExitCode::from(NO_MEMORY);
-        }
-    }
     let mut files = if records(&words) {
         HostFiles::sparing_opened(&rt)
     } else {

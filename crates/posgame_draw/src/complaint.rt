@@ -1,51 +1,42 @@
 //! What went wrong, said to people on standard error.
 use crate::usage::{Asked, NAME};
 use clap::Error;
+use pg_host::say_unreadable;
 use pg_messages::{NO_MEANING, NO_MEMORY, READ_FAILED, WRITE_FAILED};
-use std::fs;
-
-/// Says of a file that it can't be read, and why, if that is so; returns whether it is.
-fn say_one(rt: &HostRuntime, name: &str) -> bool {
-    match fs::File::open(rt, name) {
-        Ok(_) => false,
-        Err(error) => {
-            let _ = eprintln!(rt; "{NAME}: {name}: {error}");
-            true
-        }
-    }
-}
 
 /// Returns the names of the files that are read: of the game, of its layout, and of a certificate
 /// or a record; that of the game again for one that isn't asked for.
-fn files_of<'a>(asked: &Asked<'a>) -> (&'a str, &'a str, &'a str) {
+fn files_of<'a>(asked: &Asked<'a>) -> [&'a str; 3] {
     match asked {
-        Asked::Picture(order) => (
+        Asked::Picture(order) => [
             order.game,
             order.style.layout.unwrap_or(order.game),
             order.certificate.unwrap_or(order.game),
-        ),
-        Asked::Recorded(order, style) => (
+        ],
+        Asked::Recorded(order, style) => [
             order.game,
             style.layout.unwrap_or(order.game),
             order.record,
-        ),
-        Asked::Book(order, style) => (
+        ],
+        Asked::Book(order, style) => [
             order.game,
             style.layout.unwrap_or(order.game),
             order.certificate,
-        ),
+        ],
     }
 }
 
 /// Says which of the files can't be read, and why.
-fn say_unreadable(rt: &HostRuntime, answer: &Result<Asked<'_>, Error>) {
+fn say_unread(rt: &HostRuntime, answer: &Result<Asked<'_>, Error>) {
     let Ok(asked) = answer else {
         return;
     };
-    let (game, layout, other) = files_of(asked);
-    if !say_one(rt, game) && !say_one(rt, layout) && !say_one(rt, other) {
-        let _ = eprintln!(rt; "{NAME}: a file couldn't be read");
+    for name in files_of(asked) {
+        if say_unreadable(rt, NAME, name) {
+            return;
+        }
     }
+    let _ = eprintln!(rt; "{NAME}: a file couldn't be read");
 }
 
 /// Says why words have no meaning: by `clap`, if it has something to say, or that the node isn't
@@ -66,7 +57,7 @@ pub(crate) fn say(rt: &HostRuntime, status: u8, answer: &Result<Asked<'_>, Error
             Ok(())
         }
         READ_FAILED => {
-            say_unreadable(rt, answer);
+            say_unread(rt, answer);
             Ok(())
         }
         WRITE_FAILED => eprintln!(rt; "{NAME}: standard output couldn't be written"),

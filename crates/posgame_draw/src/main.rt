@@ -9,32 +9,14 @@ use clap::Error;
 use pg_binding::{BookOrder, bind};
 use pg_captions::Look;
 use pg_drawing::draw;
-use pg_host::{HostConsole, HostFiles, guard_streams};
+use pg_host::{HostConsole, HostFiles, guard_streams, words_given};
 use pg_laying::{open_layout, tell_no_layout};
 use pg_layout::Chart;
-use pg_messages::{DONE, NO_MEMORY, NO_WORDS};
+use pg_messages::{DONE, NO_MEMORY};
 use pg_replaying::{RecordOrder, draw_record};
 use std::alloc::{AllocError, Global};
-use std::env;
-use std::io::ErrorKind;
 use std::process::ExitCode;
 use usage::{Asked, PictureOrder, Style};
-
-/// Returns the words of the command line after the program's name, or the status without them.
-fn words_given(rt: &HostRuntime) -> Result<Vec<String>, u8> {
-    let arguments = match env::args(rt) {
-        Ok(arguments) => arguments,
-        Err(error) if error.kind() == ErrorKind::OutOfMemory => return Err(NO_MEMORY),
-        Err(_) => return Err(NO_WORDS),
-    };
-    let mut words = Vec::new(rt.alloc());
-    for word in arguments.skip(1) {
-        if words.push(word).is_err() {
-            return Err(NO_MEMORY);
-        }
-    }
-    Ok(words)
-}
 
 /// Adds a word.
 fn add(alloc: Global, names: &mut Vec<String>, word: &str) -> Result<(), AllocError> {

@@ -12,19 +12,17 @@ use pg_characters::Look;
 use pg_computer::{VersusOrder, versus};
 use pg_duel::{Challenge, duel};
 use pg_finder::ProofNumbers;
-use pg_host::{HostConsole, HostFiles, guard_streams};
+use pg_host::{HostConsole, HostFiles, guard_streams, words_given};
 use pg_io::{Console, Files};
 use pg_laying::{open_layout, tell_no_layout};
 use pg_layout::Chart;
 use pg_limits::Unwatched;
-use pg_messages::{NO_MEMORY, NO_WORDS, WRITE_FAILED};
+use pg_messages::WRITE_FAILED;
 use pg_playing::{Order, play};
 use pg_results::end_early;
 use pg_settle::Budget;
 use pg_talk::Halt;
 use std::alloc::Global;
-use std::env;
-use std::io::ErrorKind;
 use std::process::ExitCode;
 use usage::Asked;
 
@@ -35,24 +33,6 @@ const BUDGET: Budget = Budget {
     entries: 10_000,
     nodes: 10_000,
 };
-
-/// Returns the words of the command line after the program's name, or the status without them.
-fn words_given(rt: &HostRuntime) -> Result<Vec<String>, u8> {
-    let arguments = env::args(rt).map_err(|error| {
-        if error.kind() == ErrorKind::OutOfMemory {
-            NO_MEMORY
-        } else {
-            NO_WORDS
-        }
-    })?;
-    let mut words = Vec::new(rt.alloc());
-    for word in arguments.skip(1) {
-        if words.push(word).is_err() {
-            return Err(NO_MEMORY);
-        }
-    }
-    Ok(words)
-}
 
 /// Plays against the program, by the searches of `pg_finder`.
 fn play_computer<F: Files, C: Console>(

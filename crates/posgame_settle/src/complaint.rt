@@ -1,16 +1,15 @@
 //! What went wrong, said to people on standard error.
 use crate::looking::{is_hidden, is_open};
 use crate::usage::{Asked, NAME, Task, is_task};
+use pg_host::say_unreadable;
 use pg_messages::{NO_MEANING, NO_MEMORY, READ_FAILED, WRITE_FAILED};
 use pg_plan::plan_name;
-use std::fs;
 
-/// Says why a file can't be read.
-fn say_unreadable(rt: &HostRuntime, name: &str) {
-    let _ = match fs::File::open(rt, name) {
-        Ok(_) => eprintln!(rt; "{NAME}: {name}: it couldn't be read"),
-        Err(error) => eprintln!(rt; "{NAME}: {name}: {error}"),
-    };
+/// Says why a file couldn't be read.
+fn say_unread_file(rt: &HostRuntime, name: &str) {
+    if !say_unreadable(rt, NAME, name) {
+        let _ = eprintln!(rt; "{NAME}: {name}: it couldn't be read");
+    }
 }
 
 /// Says why the plan can't be read, if that can't be opened, else why the game can't.
@@ -18,16 +17,16 @@ fn say_unread(rt: &HostRuntime, asked: &Asked<'_>) {
     let (folder, is_needed) = match asked.task {
         Task::Join(folder) => (folder, true),
         Task::Split(folder) => (folder, false),
-        Task::Settle | Task::Moves => return say_unreadable(rt, asked.game),
+        Task::Settle | Task::Moves => return say_unread_file(rt, asked.game),
     };
     let Ok(plan) = plan_name(rt.alloc(), folder) else {
         return;
     };
     let plan = plan.as_str();
     if is_hidden(rt, plan) || is_needed && !is_open(rt, plan) {
-        say_unreadable(rt, plan);
+        say_unread_file(rt, plan);
     } else {
-        say_unreadable(rt, asked.game);
+        say_unread_file(rt, asked.game);
     }
 }
 

@@ -9,36 +9,16 @@ mod progress;
 mod usage;
 
 use looking::is_hidden;
-use pg_host::{HostConsole, HostFiles, guard_streams};
+use pg_host::{HostConsole, HostFiles, guard_streams, words_given};
 use pg_joining::{JoinOrder, join};
-use pg_messages::{NO_MEANING, NO_MEMORY, NO_WORDS, READ_FAILED};
+use pg_messages::{NO_MEANING, NO_MEMORY, READ_FAILED};
 use pg_moves::{MovesOrder, settle_moves};
 use pg_plan::plan_name;
 use pg_settle::{Budget, Order, budget_for, settle};
 use pg_splitting::{DEFAULT_PIECES, SplitOrder, split_game};
 use progress::ShownFinder;
-use std::env;
-use std::io::ErrorKind;
 use std::process::ExitCode;
 use usage::{Asked, Task, is_task};
-
-/// Returns the words of the command line after the program's name, or the status without them.
-fn words_given(rt: &HostRuntime) -> Result<Vec<String>, u8> {
-    let arguments = env::args(rt).map_err(|error| {
-        if error.kind() == ErrorKind::OutOfMemory {
-            NO_MEMORY
-        } else {
-            NO_WORDS
-        }
-    })?;
-    let mut words = Vec::new(rt.alloc());
-    for word in arguments.skip(1) {
-        if words.push(word).is_err() {
-            return Err(NO_MEMORY);
-        }
-    }
-    Ok(words)
-}
 
 /// Tries the moves of the game, and returns the status.
 fn run_on_moves(rt: &HostRuntime, asked: &Asked<'_>, budget: Budget) -> u8
