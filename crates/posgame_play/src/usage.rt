@@ -4,10 +4,8 @@ use clap::error::ErrorKind;
 use clap::{Arg, Command, Error};
 use pg_base::Side;
 use pg_messages::{DONE, NO_MEANING, NO_MEMORY};
+use pg_settle::VERSION;
 use std::alloc::Global;
-
-/// The version that `--version` prints.
-pub(crate) const VERSION: &str = "1.1.0";
 
 /// The name that the program has in its messages.
 pub(crate) const NAME: &str = "posgame-play";
