@@ -14,4 +14,5 @@ pub use given::{say_unreadable, words_given};
 pub use host_console::HostConsole;
 pub use host_files::HostFiles;
 pub use part::MAX_PART_NAMES;
+pub use place::are_same;
 pub use streams::guard_streams;

@@ -59,7 +59,7 @@ pub(crate) fn open_to_write<R: FileSystem<File = File>>(rt: &R, path: &str) -> i
 }
 
 /// Returns whether both are the same file of the system.
-pub(crate) fn are_same(one: &Metadata, other: &Metadata) -> bool {
+pub fn are_same(one: &Metadata, other: &Metadata) -> bool {
     one.dev() == other.dev() && one.ino() == other.ino()
 }
 

@@ -1,12 +1,12 @@
 //! Looks whether the record would replace a file that is read.
 use crate::usage::Asked;
-use std::os::unix::fs::MetadataExt;
+use pg_host::are_same;
 use std::rt::Files;
 
 /// Returns whether both names lead to the same file of the system.
-fn are_same(rt: &HostRuntime, one: &str, other: &str) -> bool {
+fn lead_to_same(rt: &HostRuntime, one: &str, other: &str) -> bool {
     match (rt.metadata(one), rt.metadata(other)) {
-        (Ok(one), Ok(other)) => one.dev() == other.dev() && one.ino() == other.ino(),
+        (Ok(one), Ok(other)) => are_same(&one, &other),
         _ => false,
     }
 }
@@ -20,7 +20,7 @@ pub(crate) fn replaced<'a>(rt: &HostRuntime, asked: &Asked<'a>) -> Option<&'a st
         asked.layout.unwrap_or(asked.game),
     ];
     for name in read {
-        if are_same(rt, record, name) {
+        if lead_to_same(rt, record, name) {
             return Some(name);
         }
     }
