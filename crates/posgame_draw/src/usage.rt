@@ -114,7 +114,9 @@ fn number<'a>(
 fn with_moves<'a>(alloc: Global, command: Command<'a>) -> Result<Command<'a>, AllocError> {
     let moves = number(alloc, MOVE, "K", 0, MAX_MOVES)?;
     let moves = moves.help("Draw the recorded game in CERT after K moves");
-    let moves = moves.requires_arg("CERT")?.conflicts_with_all(&["NODE", BLANK])?;
+    let moves = moves
+        .requires_arg("CERT")?
+        .conflicts_with_all(&["NODE", BLANK])?;
     command.arg(moves)
 }
 
@@ -182,9 +184,9 @@ fn with_depth<'a>(alloc: Global, command: Command<'a>) -> Result<Command<'a>, Al
     let range = ValueParser::unsigned(0, u64::from(MAX_DEPTH));
     let depth = Arg::new(alloc, DEPTH).long(DEPTH).value_name("K");
     let depth = depth.value_parser(range).requires_arg(BOOK)?;
-    let depth = depth.conflicts_with_all(
-        &["NODE", NO_NUMBERS, NO_LINES, NO_LEGEND, SIZE, BLANK, MOVE],
-    )?;
+    let depth = depth.conflicts_with_all(&[
+        "NODE", NO_NUMBERS, NO_LINES, NO_LEGEND, SIZE, BLANK, MOVE,
+    ])?;
     command.arg(depth.help("Print the first K moves of the proof alone"))
 }
 
