@@ -1,8 +1,11 @@
 //! Positions of a game, and their images under the maps of its board.
-ghost use Rattle.std.specs.Prelude.{◌≡◌, ◌<◌, true};
+ghost use Rattle.std.specs.Prelude.{◌≡◌, ◌<◌, ◌≤◌, ◌*◌, true};
 ghost use Rattle.pg_base.specs.declared.limits.TheConstants.{MAX_MEMBERS};
 ghost use Rattle.pg_game.specs.Game.{IsPosition, point_count};
 ghost use Rattle.pg_game.specs.Position.{is_free};
+ghost use Rattle.pg_backing.specs.Ways.{has_map, may_take, source_by, source_of};
+ghost use Rattle.pg_maps.specs.GridMaps.{IsMapOf, numbered, reverse_of};
+ghost use Rattle.pg_maps.specs.Images.{board_of};
 
 use pg_base::{Grid, Line, LineFault, Lines, MAX_MEMBERS, Memory};
 use pg_game::{Field, Game, LineField, Misfit, Position};
@@ -11,6 +14,7 @@ use std::alloc::Global;
 
 /// Returns whether the point is one of the game and nobody has it.
 pub fn may_take(game: &Game, position: &Position, point: u16) -> bool
+    ensures exact { result ≡ may_take game.now position.now point }
     ensures small { result ≡ true → point < MAX_MEMBERS }
 {
     point < game.points() && position.is_free(point)
@@ -30,24 +34,44 @@ pub fn is_position(game: &Game, position: &Position) -> bool
 }
 
 /// Returns the board whose cells the game's points are.
-fn board_of(game: &Game) -> Option<Grid> {
+fn board_of(game: &Game) -> Option<Grid>
+    ensures { result ≡ board_of game.now.field }
+{
     match &game.field {
         Field::Lines(field) => field.grid,
         Field::Graph(_) => None,
     }
 }
 
+/// Returns whether the map is one of the board, whose cells are within the limits.
+fn has_map(grid: Grid, map: GridMap) -> bool
+    ensures exact { result ≡ has_map grid map }
+    ensures few { result ≡ true → grid.width * grid.height ≤ MAX_MEMBERS }
+    ensures back { result ≡ true → IsMapOf grid (reverse_of map) }
+{
+    let cells = u32::from(grid.width) * u32::from(grid.height);
+    cells <= u32::from(MAX_MEMBERS) && map.is_map_of(grid)
+}
+
+/// Returns the position whose image under the map of the board is the one given.
+fn source_by(grid: Grid, map: GridMap, image: &Position) -> Option<Position>
+    ensures { result ≡ source_by grid map image.now }
+{
+    if has_map(grid, map) {
+        Some(map.reverse().image_position(grid, image))
+    } else {
+        None
+    }
+}
+
 /// Returns the position whose image under the map of this number is the one given, if the game has
 /// a board with such a map.
-pub(crate) fn source_of(game: &Game, map: u8, image: &Position) -> Option<Position> {
+pub(crate) fn source_of(game: &Game, map: u8, image: &Position) -> Option<Position>
+    ensures { result ≡ source_of game.now map image.now }
+{
     let grid = board_of(game)?;
     let map = GridMap::from_number(map)?;
-    let back = map.reverse();
-    let cells = u32::from(grid.width) * u32::from(grid.height);
-    if cells > u32::from(MAX_MEMBERS) || !back.is_map_of(grid) {
-        return None;
-    }
-    Some(back.image_position(grid, image))
+    source_by(grid, map, image)
 }
 
 /// Returns copies of the lines.
