@@ -1,16 +1,13 @@
 -- Positions that are put at the numbers of a plan, from the last number down.
 use Rattle.std.proofs.Common.{◌≡◌, ◌∙◌, ◌+◌, ◌-◌, ◌<◌, ◌≤◌, ◌&&◌, ◌==◌, ℕ, zero, suc, Bool, true}
-use Rattle.std.proofs.Common.{false, cond, List, [], ◌∷◌, ◌++◌, Option, Some, None, ap, ap₂, arith}
-use Rattle.std.proofs.Common.{drop, set}
-use Rattle.std.proofs.Common.{get_or, length, length-drop, nat_lt, refl, replicate, subst, sym}
-use Rattle.std.proofs.Common.{take}
-use Rattle.std.proofs.Common.{if◌then◌else◌, inl, inr, le_of_suc-le-suc, not-suc-le-zero}
+use Rattle.std.proofs.Common.{false, cond, if◌then◌else◌, List, [], ◌∷◌, ◌++◌, Option, Some, None}
+use Rattle.std.proofs.Common.{ap, ap₂, arith, drop, get_or, inl, inr, le_of_suc-le-suc, length}
+use Rattle.std.proofs.Common.{length-drop, nat_lt, not-suc-le-zero, refl, subst, sym, take}
 use Rattle.std.proofs.lemmas.Bool.{and_parts, and_right, cases_eq}
-use Rattle.std.proofs.lemmas.List.{drop_all, drop_more, ext_get_or, get_or-drop, get_or-set_other}
-use Rattle.std.proofs.lemmas.List.{get_or-set_same, get_or_default, length-set, take_at, take_more}
+use Rattle.std.proofs.lemmas.List.{drop_more, ext_get_or, get_or-drop, take_at, take_more}
 use Rattle.std.specs.List.{list_all}
 use Rattle.std.specs.Option.{option_or}
-use borrow.Author.Tests.{eq-eqb, ltb-true, ne_eqb}
+use borrow.Author.Tests.{ltb-true, ne_eqb}
 use Rattle.pg_game.specs.Game.{after, start}
 use Rattle.pg_game.specs.declared.game.Game.{Game}
 use Rattle.pg_game.specs.declared.position.Position.{Position}
@@ -18,8 +15,7 @@ use Rattle.pg_plan.specs.Places.{ArePlaces, names_earlier}
 use Rattle.pg_plan.specs.declared.place.Place.{Place}
 use Rattle.pg_plan.specs.declared.place.Place.TheVariants as places
 use Rattle.pg_plan.specs.declared.place.Step.{Step}
-use Rattle.pg_backing.specs.Ways.{ArePositionsFrom, ArePut, first_way, may_take, moved, way}
-use Rattle.pg_backing.specs.Ways.{source_of, way_from}
+use Rattle.pg_backing.specs.Ways.{ArePut, first_way, may_take, moved, source_of, way_from}
 
 -- ---- options
 
@@ -42,60 +38,6 @@ put_none given old new same none = record {
   each = λ j _. ap (λ (xs : List (Option Position)). get_or xs j None) same
       ∙ sym (or_none (get_or old j None)) ∙ ap (option_or (get_or old j None)) (sym (none j));
 }
-
--- ---- one position
-
-pub put_at : (i : ℕ) (p : Position) (old : List (Option Position)) (q : Option Position)
-    → i < length old
-    → q ≡ get_or old i q
-    → ArePut (λ j. if i == j then Some p else None) old (set old i (option_or q (Some p)))
-put_at i p old q within at = record {
-  count = length-set old i (option_or q (Some p));
-  each = λ j small. elim (cases_eq i j) [
-    | inl same ↦
-        let new = set old i (option_or q (Some p)) in
-        let read : q ≡ get_or old i None = at ∙ get_or_default old i q None within in
-        ap (λ (n : ℕ). get_or new n None) (sym same)
-        ∙ get_or-set_same old i (option_or q (Some p)) None within
-        ∙ ap (λ (o : Option Position). option_or o (Some p))
-        (read ∙ ap (λ (n : ℕ). get_or old n None) same)
-        ∙ ap (λ (b : Bool). option_or (get_or old j None) (cond b (Some p) None))
-        (sym (eq-eqb i j same))
-    | inr differ ↦ get_or-set_other old i j (option_or q (Some p)) None (λ e. differ (sym e))
-        ∙ sym (or_none (get_or old j None))
-        ∙ ap (λ (b : Bool). option_or (get_or old j None) (cond b (Some p) None))
-        (sym (ne_eqb i j differ))
-  ];
-}
-
-pub put_past : (i : ℕ) (p : Position) (old : List (Option Position))
-    → length old ≤ i
-    → ArePut (λ j. if i == j then Some p else None) old old
-put_past i p old past = record {
-  count = refl;
-  each = λ j small. sym (or_none (get_or old j None))
-      ∙ ap (λ (b : Bool). option_or (get_or old j None) (cond b (Some p) None))
-      (sym (ne_eqb i j (λ e. omega (arith, e, past, small))));
-}
-
--- a source is put at its number
-pub put_by : (i : ℕ) (source : Option Position) (p : Position) (old new : List (Option Position))
-    → source ≡ Some p
-    → ArePut (λ j. if i == j then Some p else None) old new
-    → ArePut (λ j. if i == j then source else None) old new
-put_by i source p old new is put = subst
-    (λ (o : Option Position). ArePut (λ j. if i == j then o else None) old new) (sym is) put
-
-cond_none : (b : Bool) → ◌≡◌ {A = Option Position} (cond b None None) None
-cond_none true = refl
-cond_none false = refl
-
--- none is put
-pub put_absent : (i : ℕ) (source : Option Position) (old : List (Option Position))
-    → source ≡ None
-    → ArePut (λ j. if i == j then source else None) old old
-put_absent i source old is = put_none (λ j. if i == j then source else None) old old refl
-    (λ j. ap (λ (o : Option Position). cond (i == j) o None) is ∙ cond_none (i == j))
 
 -- ---- moves
 
@@ -177,30 +119,6 @@ put_same g p steps i d first old within may before = record {
       ∙ ap (option_or (moved g p (take i steps) j)) one ∙ or_none (moved g p (take i steps) j)));
 }
 
--- ---- the ways from a number
-
-pub go_some : (g : Game) (place : Place) (i : ℕ) (old new : List (Option Position))
-    (q : Option Position) (p : Position)
-    → i < length old
-    → q ≡ get_or old i q
-    → q ≡ Some p
-    → ArePut (way g place p) old new
-    → ArePut (way_from g place (get_or old i None)) old new
-go_some g place i old new q p within at is put =
-    subst (λ (o : Option Position). ArePut (way_from g place o) old new)
-    (sym is ∙ at ∙ get_or_default old i q None within) put
-
-pub go_none : (g : Game) (place : Place) (i : ℕ) (old : List (Option Position))
-    (q : Option Position)
-    → i < length old
-    → q ≡ get_or old i q
-    → q ≡ None
-    → ArePut (way_from g place (get_or old i None)) old old
-go_none g place i old q within at is =
-    subst (λ (o : Option Position). ArePut (way_from g place o) old old)
-    (sym is ∙ at ∙ get_or_default old i q None within)
-    (put_none (way_from g place None) old old refl (λ j. refl))
-
 -- ---- places that name earlier ones
 
 not_late : (i k j : ℕ) → nat_lt i k ≡ true → k ≤ j → (i == j) ≡ false
@@ -261,41 +179,6 @@ pub record AreStanding (g : Game) (plan : List Place) (positions : List (Option 
       → m ≤ i
       → i + 1 < length plan
       → get_or positions i None ≡ first_way g (drop (i + 1) plan) (drop (i + 1) positions) i
-
-abbrev nones : ℕ → List (Option Position)
-nones n = replicate n None
-
-none_at : (n j : ℕ) → get_or (nones n) j None ≡ None
-none_at zero j = refl
-none_at (suc n) zero = refl
-none_at (suc n) (suc j) = none_at n j
-
-pub stands_first : (g : Game) (plan : List Place) (old new : List (Option Position)) (k : ℕ)
-    → k ≡ length plan - 1
-    → old ≡ replicate (length plan) None
-    → length old ≡ length plan
-    → ArePut (λ j. if k == j then Some (start g) else None) old new
-    → AreStanding g plan new (length plan)
-stands_first g plan old new k size is count put =
-    let free : (j : ℕ) → get_or old j None ≡ None = λ j.
-    ap (λ (xs : List (Option Position)). get_or xs j None) is ∙ none_at (length plan) j in
-    let at : (j : ℕ) → j < length plan
-    → get_or new j None ≡ (if k == j then Some (start g) else None) =
-    λ j small. put.each j (omega (arith, small, count))
-    ∙ ap (λ (o : Option Position). option_or o (if k == j then Some (start g) else None))
-    (free j) in
-    record {
-      count = put.count ∙ count;
-      last = λ some.
-          at (length plan - 1) (omega (arith, some))
-          ∙ ap (λ (b : Bool). cond b (Some (start g)) None) (eq-eqb k (length plan - 1) size);
-      below = λ are i low high. at i low
-          ∙ ap (λ (b : Bool). cond b (Some (start g)) None)
-          (ne_eqb k i (λ same. omega (arith, same, size, high)))
-          ∙ sym (ap (λ (ps : List Place). first_way g ps (drop (length plan) new) i)
-          (drop_all (length plan) plan (omega arith)));
-      above = λ are i low high. absurd (omega (arith, low, high));
-    }
 
 -- the positions from a number on are the same
 rest_same : (old new : List (Option Position)) (k n : ℕ)
@@ -374,15 +257,6 @@ stands_more g plan k place old new within at put before =
           ∙ ap (λ (qs : List (Option Position)). first_way g (drop (i + 1) plan) qs i)
           (sym (rest are (i + 1) (omega (arith, low))));
     }
-
-pub stands_all : (g : Game) (plan : List Place) (positions : List (Option Position))
-    → AreStanding g plan positions 0
-    → ArePositionsFrom g plan positions
-stands_all g plan positions standing = record {
-  count = standing.count;
-  last = standing.last;
-  others = λ are i. standing.above are i (omega arith);
-}
 
 -- so in a vector of n positions that was lent as a slice
 pub gone_on : (g : Game) (plan : List Place) (done : ℕ) (place : Place) (n : ℕ)

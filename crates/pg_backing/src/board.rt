@@ -1,10 +1,9 @@
 //! Positions of a game, and their images under the maps of its board.
 ghost use Rattle.std.specs.Prelude.{◌≡◌, ◌<◌, ◌≤◌, ◌*◌, true};
 ghost use Rattle.pg_base.specs.declared.limits.TheConstants.{MAX_MEMBERS};
-ghost use Rattle.pg_game.specs.Game.{IsPosition, point_count};
-ghost use Rattle.pg_game.specs.Position.{is_free};
+ghost use Rattle.pg_game.specs.Game.{IsPosition};
 ghost use Rattle.pg_backing.specs.Ways.{has_map, may_take, source_by, source_of};
-ghost use Rattle.pg_maps.specs.GridMaps.{IsMapOf, numbered, reverse_of};
+ghost use Rattle.pg_maps.specs.GridMaps.{IsMapOf, reverse_of};
 ghost use Rattle.pg_maps.specs.Images.{board_of};
 
 use pg_base::{Grid, Line, LineFault, Lines, MAX_MEMBERS, Memory};
