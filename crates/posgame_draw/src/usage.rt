@@ -85,7 +85,9 @@ pub(crate) enum Asked<'a> {
     Book(BookOrder<'a>, Style<'a>),
 }
 
-/// Adds an option that a picture is to be without something.
+/// Adds an option that a picture is to be without something. It is refused with `--book`, and with
+/// `--depth`, since `clap` does not ask for the `--book` that `--depth` requires beside an option
+/// with which that conflicts.
 fn with_absence<'a>(
     alloc: Global,
     command: Command<'a>,
@@ -94,10 +96,11 @@ fn with_absence<'a>(
 ) -> Result<Command<'a>, AllocError> {
     let absence = Arg::new(alloc, name).long(name).action(ArgAction::SetTrue);
     let absence = absence.help(help).conflicts_with(BOOK)?;
-    command.arg(absence)
+    command.arg(absence.conflicts_with(DEPTH)?)
 }
 
-/// Returns an option that takes a number in this range, which `value` stands for in the help.
+/// Returns an option of a picture that takes a number in this range, which `value` stands for in
+/// the help. It is refused with `--book` and `--depth`.
 fn number<'a>(
     alloc: Global,
     name: &'a str,
@@ -107,17 +110,18 @@ fn number<'a>(
 ) -> Result<Arg<'a>, AllocError> {
     let range = ValueParser::unsigned(u64::from(least), u64::from(most));
     let number = Arg::new(alloc, name).long(name).value_name(value);
-    number.value_parser(range).conflicts_with(BOOK)
+    number
+        .value_parser(range)
+        .conflicts_with(BOOK)?
+        .conflicts_with(DEPTH)
 }
 
 /// Adds the option for the moves after which a recorded game is drawn.
 fn with_moves<'a>(alloc: Global, command: Command<'a>) -> Result<Command<'a>, AllocError> {
     let moves = number(alloc, MOVE, "K", 0, MAX_MOVES)?;
     let moves = moves.help("Draw the recorded game in CERT after K moves");
-    let moves = moves
-        .requires_arg("CERT")?
-        .conflicts_with_all(&["NODE", BLANK])?;
-    command.arg(moves)
+    let moves = moves.requires_arg("CERT")?.conflicts_with("NODE")?;
+    command.arg(moves.conflicts_with(BLANK)?)
 }
 
 /// Adds the option for the width of a picture.
@@ -178,15 +182,12 @@ fn with_book<'a>(alloc: Global, command: Command<'a>) -> Result<Command<'a>, All
     command.arg(book)
 }
 
-/// Adds the option for how many moves a book shows. What conflicts with `--book` is refused with
-/// `--depth` too: beside it, `clap` does not ask for the option that `--depth` requires.
+/// Adds the option for how many moves a book shows.
 fn with_depth<'a>(alloc: Global, command: Command<'a>) -> Result<Command<'a>, AllocError> {
     let range = ValueParser::unsigned(0, u64::from(MAX_DEPTH));
     let depth = Arg::new(alloc, DEPTH).long(DEPTH).value_name("K");
     let depth = depth.value_parser(range).requires_arg(BOOK)?;
-    let depth = depth.conflicts_with_all(&[
-        "NODE", NO_NUMBERS, NO_LINES, NO_LEGEND, SIZE, BLANK, MOVE,
-    ])?;
+    let depth = depth.conflicts_with("NODE")?;
     command.arg(depth.help("Print the first K moves of the proof alone"))
 }
 
